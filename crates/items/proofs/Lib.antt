@@ -1,0 +1,3 @@
+mod Extents
+mod Joins
+mod Wholes

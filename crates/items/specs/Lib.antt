@@ -1,0 +1,4 @@
+pub mod Kinds
+pub mod Extents
+pub mod Handed
+pub mod Hands

@@ -1,0 +1,5 @@
+// A bounded list over places that its owner lends.
+mod list;
+
+pub use list::BoundedList;
+pub use list::ListRefusal;

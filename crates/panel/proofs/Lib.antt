@@ -1,0 +1,3 @@
+pub mod Glass
+pub mod Puts
+mod Steps

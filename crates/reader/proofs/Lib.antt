@@ -1,0 +1,3 @@
+mod Pages
+pub mod Stepped
+pub mod Cancels

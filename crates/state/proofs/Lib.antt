@@ -1,0 +1,4 @@
+pub mod Kept
+mod Reeled
+pub mod Runs
+pub mod Stays

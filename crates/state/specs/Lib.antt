@@ -1,0 +1,16 @@
+pub mod Presets
+pub mod Lamps
+pub mod Cells
+pub mod Slots
+pub mod Faults
+pub mod Moves
+pub mod Layouts
+pub mod Voices
+pub mod Heard
+pub mod Users
+pub mod Reels
+pub mod Tapes
+pub mod Core
+pub mod Effects
+pub mod Model
+pub mod Questions
