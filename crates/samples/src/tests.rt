@@ -2,11 +2,12 @@
 use display::display::Display;
 use display::words::Answer;
 use display::words::Question;
+use history::compare::same;
+use history::recall::recall_bytes;
 use list::BoundedList;
 use panel::Panel;
 use panel::PlainIsPanel;
 use panel::PlainPanel;
-use reader::words::ReadFault;
 use state::fault::DisplayFault;
 use state::fault::Fault;
 use state::settings::Settings;
@@ -169,4 +170,37 @@ fn a_recording_of_eighty_and_of_eighty_one() -> Result<(), Fail> {
         Ok(Answer::Modes { modes }) => check(modes.recording),
         _ => Err(Fail::new("modes")),
     }
+}
+
+#[test]
+fn the_recall_from_a_half_read_command() -> Result<(), Fail> {
+    let expected = [
+        0x18u8,
+        0x18,
+        0x18,
+        0x18,
+        0x18,
+        0x18,
+        0x1B,
+        0x3D,
+        0x02,
+        0x1B,
+        0x40,
+    ];
+    let recall = recall_bytes();
+    for i in 0..11 {
+        check_eq(recall[i], expected[i])?;
+    }
+    let mut display = switched_on()?;
+    // a window, an open recording, and a user character of which five columns are to come
+    check_eq(
+        fed(
+            &mut display,
+            b"\x1bW\x01\x01\x05\x01\x08\x01AB\x1f:C\x1b&\x01 ~\x05",
+        ),
+        0,
+    )?;
+    check(!same(&display, &switched_on()?))?;
+    let _ = fed(&mut display, recall);
+    check(same(&display, &switched_on()?))
 }

@@ -1,4 +1,5 @@
 // The lines of a script (RULES, Script of the program).
+ghost use mathlib.Core.Path.{_≡_};
 ghost use Prim.Native.Nat.{_≤_};
 ghost use denote.Ref.{now};
 ghost use lib.ListN.{length};
@@ -12,4 +13,13 @@ pub struct Lines<'a> {
     at: usize,
     number: usize,
     ghost ok: { (at ≤ length (now input)) × (number ≤ at) },
+}
+
+impl Lines<'_> {
+    // The number of the line that was handed out last, counted from 1.
+    pub fn number(&self) -> usize
+        ensures { λ r. ⌜ r ≡ now (self .entry) .number ⌝ }
+    {
+        self.number
+    }
 }

@@ -50,11 +50,4 @@ impl<'a> Lines<'a> {
         self.number += 1;
         Some(line)
     }
-
-    // The number of the line that was handed out last, counted from 1.
-    pub fn number(&self) -> usize
-        ensures { λ r. ⌜ r ≡ now (self .entry) .number ⌝ }
-    {
-        self.number
-    }
 }
