@@ -40,7 +40,7 @@ fn switched_on() -> Result<Display<PlainPanel>, Fail> {
     }
 }
 
-// Feeds bytes with room for eight faults; how many there were.
+// How many faults a piece gave; as many as can be where it was refused.
 fn fed(display: &mut Display<PlainPanel>, piece: &[u8]) -> usize {
     let mut places = [NO_FAULT; 512];
     let mut faults = BoundedList::over(&mut places);
