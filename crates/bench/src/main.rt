@@ -1,4 +1,6 @@
 // `bench` plays a till's day and prints what every machine must print alike; `bench time` also says how fast it goes.
+#![tactic(auto)]
+
 mod day;
 mod play;
 mod seen;

@@ -1,4 +1,6 @@
 // How a till embeds the display: a sale over a strip panel, painted on a screen of forty cells.
+#![tactic(auto)]
+
 use anyhow::{Context, anyhow};
 use display::display::Display;
 use display::words::{Answer, Question};

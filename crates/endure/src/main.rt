@@ -1,4 +1,6 @@
 // `endure` lives a long life by chance, of ten million bytes and ticks or as many as its argument says, and counts what came of it.
+#![tactic(auto)]
+
 mod dice;
 mod life;
 mod page;

@@ -1,6 +1,6 @@
 -- One happening more in a life.
 use Rattle.std.proofs.Common.{◌≡◌, ℕ, ◌+◌, ◌<◌, ◌≤◌, ltb, List, [], ◌∷◌, ◌++◌, map, length, get_or, take, set, Some, None, Option, Result, sym, refl, ap, ◌∙◌, subst, subst₂, append_assoc, arith}
-use Rattle.std.proofs.lemmas.List.{append-nil, flat_map_more, take_more, length-set, length-take}
+use Rattle.std.proofs.lemmas.List.{append-nil, map_more, length-set, length-take}
 use Rattle.std.proofs.lemmas.Option.{MatchOption-at_none}
 use Rattle.std.proofs.lemmas.Bool.{le-ltb, cond-false}
 use Rattle.std.specs.List.{slice_get}
@@ -11,7 +11,7 @@ use Rattle.state.specs.Model.{Event, byte, tick, fault_of, faults}
 use Rattle.display.specs.declared.words.FeedRefusal.{FeedRefusal}
 use Rattle.display.specs.declared.words.FeedRefusal.TheVariants.{FewPlaces}
 use Rattle.display.specs.declared.display.Display.{Display}
-use Rattle.display.specs.Calls.{view, feed_cause, free, laid, Accepts, Refuses, Feeds, Ticks, Paints}
+use Rattle.display.specs.Calls.{view, feed_cause, free, laid, Accepts, Refuses, Feeds, Ticks}
 use Rattle.history.specs.declared.replay.words.Happening.{Happening}
 use Rattle.history.specs.Lives.{accepted, Calls, none, fed, ticked, painted, asked}
 use Rattle.history.specs.Replays.{event_of, events_of, Happens}
@@ -31,9 +31,6 @@ both (x ∷ []) h = refl
 both (x ∷ y ∷ []) h = refl
 both (x ∷ y ∷ z ∷ zs) h = absurd (omega arith)
 
-events_more : (hs : List Happening) (i : ℕ) (o : Happening) → i < length hs → events_of (take i hs) ++ event_of (get_or hs i o) ≡ events_of (take (i + 1) hs)
-events_more hs i o lt = flat_map_more event_of [] (take i hs) (get_or hs i o) ∙ ap events_of (sym (take_more hs i o lt))
-
 module _ {P : Type 0} (cells : P → List ℕ) (puts : P → ℕ → ℕ → P → Type 0) (paints : P → P → Type 0) where
   calls-append : (d d₁ d₂ : Display P) (es es' : List Event) (fs fs' : List Fault) → Calls cells puts paints d es fs d₁ → Calls cells puts paints d₁ es' fs' d₂ →
       Calls cells puts paints d (es ++ es') (fs ++ fs') d₂
@@ -49,17 +46,14 @@ module _ {P : Type 0} (cells : P → List ℕ) (puts : P → ℕ → ℕ → P �
   calls-append d d₁ d₂ es es' fs fs' before (asked q r later h) = asked q r (calls-append d d₁ d₂ es es' fs fs' before later) h
 
   pub happens_tick : (d d' : Display P) (r : Option Fault) (hs all : List Fault) → Ticks cells puts paints d r d' → all ≡ hs ++ fault_of r →
-      Happens cells puts paints (tick ∷ []) d hs d' all
+      Happens cells puts paints tick d hs d' all
   happens_tick d d' r hs all h j = record { given = fault_of r; calls = ticked r none h; joined = j }
-
-  pub happens_painted : (d d' : Display P) (hs : List Fault) → Paints cells puts paints d d' → Happens cells puts paints [] d hs d' hs
-  happens_painted d d' hs h = record { given = []; calls = painted none h; joined = sym (append-nil hs) }
 
   -- a byte, fed with an empty list over two places, and the two entries then collected
   pub happens_byte : (b : ℕ) (d d' : Display P) (l l' : BoundedList Fault) (r : Result ℕ FeedRefusal) (o o' : Option Fault) (hs mid all : List Fault) →
       entries l ≡ [] → capacity l ≡ 2 → Feeds cells puts paints d (b ∷ []) l r d' l' →
       o ≡ slice_get (entries l') 0 → o' ≡ slice_get (entries l') 1 → mid ≡ hs ++ fault_of o → all ≡ mid ++ fault_of o' →
-      Happens cells puts paints (byte b ∷ []) d hs d' all
+      Happens cells puts paints (byte b) d hs d' all
   happens_byte b d d' l l' r o o' hs mid all empty two h is is' p q =
       let piece = b ∷ [] in
       let room : 2 ≤ free l = omega (arith, ap length empty, two) in
@@ -80,6 +74,6 @@ module _ {P : Type 0} (cells : P → List ℕ) (puts : P → ℕ → ℕ → P �
       Calls cells puts paints first (events_of (take (i + 1) hs)) all d'
   script_more first d d' hs i o x fs all lt is before h =
       let es = events_of (take i hs) in
-      let split : es ++ event_of x ≡ events_of (take (i + 1) hs) = ap (λ y. es ++ event_of y) is ∙ events_more hs i o lt in
+      let split : es ++ event_of x ∷ [] ≡ events_of (take (i + 1) hs) = ap (λ y. es ++ event_of y ∷ []) is ∙ sym (map_more event_of hs i o lt) in
       subst₂ (λ y z. Calls cells puts paints first y z d') split (sym h.joined)
-      (calls-append first d d' es (event_of x) fs h.given before h.calls)
+      (calls-append first d d' es (event_of x ∷ []) fs h.given before h.calls)

@@ -1,25 +1,22 @@
 -- What a script says: its events, in order.
-use Rattle.std.specs.Prelude.{◌≡◌, ℕ, List, [], ◌∷◌, ◌++◌}
-use Rattle.std.specs.List.{flat_map as joined}
+use Rattle.std.specs.Prelude.{◌≡◌, ℕ, List, [], ◌∷◌, ◌++◌, map}
 use Rattle.terms.specs.declared.fault.Fault.{Fault}
 use Rattle.state.specs.Model.{Event, byte, tick}
 use Rattle.display.specs.declared.display.Display.{Display}
 use Rattle.history.specs.declared.replay.words.Happening.{Happening}
-use Rattle.history.specs.declared.replay.words.Happening.TheVariants.{Byte, Tick, Painted}
+use Rattle.history.specs.declared.replay.words.Happening.TheVariants.{Byte, Tick}
 use Rattle.history.specs.Lives.{Calls}
 
--- the event that a display accepts; being painted is none
-abbrev pub event_of : Happening → List Event
-event_of (Byte b) = byte b ∷ []
-event_of Tick = tick ∷ []
-event_of Painted = []
+abbrev pub event_of : Happening → Event
+event_of (Byte b) = byte b
+event_of Tick = tick
 
 abbrev pub events_of : List Happening → List Event
-events_of hs = joined event_of hs
+events_of hs = map event_of hs
 
 module _ {P : Type 0} (cells : P → List ℕ) (puts : P → ℕ → ℕ → P → Type 0) (paints : P → P → Type 0) where
-  -- A display accepts these events, by calls, and the faults that they give are added to those collected before.
-  pub record Happens (es : List Event) (d : Display P) (before : List Fault) (d' : Display P) (all : List Fault) : Type 0 where
+  -- A display accepts one event, by calls, and the faults that they give are added to those collected before.
+  pub record Happens (e : Event) (d : Display P) (before : List Fault) (d' : Display P) (all : List Fault) : Type 0 where
     pub given : List Fault
-    pub calls : Calls cells puts paints d es given d'
+    pub calls : Calls cells puts paints d (e ∷ []) given d'
     pub joined : all ≡ before ++ given

@@ -118,13 +118,13 @@ fn same_said(a: Result<Answer, AskRefusal>, b: Result<Answer, AskRefusal>) -> bo
 }
 
 fn same_at<P: Panel, Q: Panel>(a: &Display<P>, b: &Display<Q>, question: Question) -> bool
-    ensures { Decides result (AgreeOn P.Panel.cells Q.Panel.cells a.now b.now question) }
+    ensures { Decides result (AgreeOn P.cells Q.cells a.now b.now question) }
 {
     same_said(a.ask(question), b.ask(question))
 }
 
 fn same_row<P: Panel, Q: Panel>(a: &Display<P>, b: &Display<Q>, row: u8) -> bool
-    ensures { Decides result ((x : ℕ) → AgreeOn P.Panel.cells Q.Panel.cells a.now b.now (Cell x row)) }
+    ensures { Decides result ((x : ℕ) → AgreeOn P.cells Q.cells a.now b.now (Cell x row)) }
 {
     for column in 1..=20 {
         if !same_at(a, b, Question::Cell { column, row }) {
@@ -136,14 +136,14 @@ fn same_row<P: Panel, Q: Panel>(a: &Display<P>, b: &Display<Q>, row: u8) -> bool
 
 // Off the two rows, and beside the twenty columns, both refuse.
 fn same_glass<P: Panel, Q: Panel>(a: &Display<P>, b: &Display<Q>) -> bool
-    ensures { Decides result (AgreeOnGlass P.Panel.cells Q.Panel.cells a.now b.now) }
+    ensures { Decides result (AgreeOnGlass P.cells Q.cells a.now b.now) }
 {
     same_row(a, b, 1) && same_row(a, b, 2)
 }
 
 // Above window 4 there is none.
 fn same_windows<P: Panel, Q: Panel>(a: &Display<P>, b: &Display<Q>) -> bool
-    ensures { Decides result (AgreeOnWindows P.Panel.cells Q.Panel.cells a.now b.now) }
+    ensures { Decides result (AgreeOnWindows P.cells Q.cells a.now b.now) }
 {
     for number in 0..=4 {
         if !same_at(a, b, Question::Window { number }) {
@@ -154,7 +154,7 @@ fn same_windows<P: Panel, Q: Panel>(a: &Display<P>, b: &Display<Q>) -> bool
 }
 
 fn same_users<P: Panel, Q: Panel>(a: &Display<P>, b: &Display<Q>) -> bool
-    ensures { Decides result (AgreeOnUsers P.Panel.cells Q.Panel.cells a.now b.now) }
+    ensures { Decides result (AgreeOnUsers P.cells Q.cells a.now b.now) }
 {
     for code in 0..=255 {
         if !same_at(a, b, Question::User { code }) {
@@ -166,7 +166,7 @@ fn same_users<P: Panel, Q: Panel>(a: &Display<P>, b: &Display<Q>) -> bool
 
 // A macro has eighty bytes at most.
 fn same_macro<P: Panel, Q: Panel>(a: &Display<P>, b: &Display<Q>) -> bool
-    ensures { Decides result (AgreeOnMacro P.Panel.cells Q.Panel.cells a.now b.now) }
+    ensures { Decides result (AgreeOnMacro P.cells Q.cells a.now b.now) }
 {
     for index in 0..=80 {
         if !same_at(a, b, Question::Macro { index }) {
@@ -177,7 +177,7 @@ fn same_macro<P: Panel, Q: Panel>(a: &Display<P>, b: &Display<Q>) -> bool
 }
 
 fn same_rest<P: Panel, Q: Panel>(a: &Display<P>, b: &Display<Q>) -> bool
-    ensures { Decides result (AgreeOnRest P.Panel.cells Q.Panel.cells a.now b.now) }
+    ensures { Decides result (AgreeOnRest P.cells Q.cells a.now b.now) }
 {
     same_at(a, b, Question::Cursor)
         && same_at(a, b, Question::Lamp)
@@ -185,22 +185,22 @@ fn same_rest<P: Panel, Q: Panel>(a: &Display<P>, b: &Display<Q>) -> bool
 }
 
 fn same_tables<P: Panel, Q: Panel>(a: &Display<P>, b: &Display<Q>) -> bool
-    ensures { Decides result (AgreeOnTables P.Panel.cells Q.Panel.cells a.now b.now) }
+    ensures { Decides result (AgreeOnTables P.cells Q.cells a.now b.now) }
 {
     same_windows(a, b) && same_users(a, b) && same_macro(a, b)
 }
 
 fn same_parts<P: Panel, Q: Panel>(a: &Display<P>, b: &Display<Q>) -> bool
-    ensures { Decides result (AgreeInParts P.Panel.cells Q.Panel.cells a.now b.now) }
+    ensures { Decides result (AgreeInParts P.cells Q.cells a.now b.now) }
 {
     same_glass(a, b) && same_tables(a, b) && same_rest(a, b)
 }
 
 // Whether two displays, over panels of any make, answer every question alike, and so show the same glass.
 pub fn same<P: Panel, Q: Panel>(a: &Display<P>, b: &Display<Q>) -> bool
-    ensures answers { Decides result (Agree P.Panel.cells Q.Panel.cells a.now b.now) }
-    ensures glass { result ≡ true → P.Panel.cells a.now.panel ≡ Q.Panel.cells b.now.panel }
-    ensures history { History P.Panel.cells P.Panel.puts P.Panel.paints Q.Panel.cells Q.Panel.puts Q.Panel.paints }
+    ensures answers { Decides result (Agree P.cells Q.cells a.now b.now) }
+    ensures glass { result ≡ true → P.cells a.now.panel ≡ Q.cells b.now.panel }
+    ensures history { History P.cells P.puts P.paints Q.cells Q.puts Q.paints }
 {
     same_parts(a, b)
 }
@@ -284,9 +284,9 @@ pub fn same_lives<P: Panel, Q: Panel>(
     b: &Display<Q>,
     given: &[Fault],
 ) -> bool
-    ensures answers { Decides result (Agree P.Panel.cells Q.Panel.cells a.now b.now × (gave.now ≡ given.now)) }
-    ensures twins { Tells P.Panel.cells P.Panel.puts P.Panel.paints Q.Panel.cells Q.Panel.puts Q.Panel.paints a.now gave.now b.now given.now result }
-    ensures history { History P.Panel.cells P.Panel.puts P.Panel.paints Q.Panel.cells Q.Panel.puts Q.Panel.paints }
+    ensures answers { Decides result (Agree P.cells Q.cells a.now b.now × (gave.now ≡ given.now)) }
+    ensures twins { Tells P.cells P.puts P.paints Q.cells Q.puts Q.paints a.now gave.now b.now given.now result }
+    ensures history { History P.cells P.puts P.paints Q.cells Q.puts Q.paints }
 {
     same(a, b) && same_faults(gave, given)
 }

@@ -1,4 +1,4 @@
-// A script of bytes, ticks and paintings, given to a new display.
+// A script of bytes and ticks, given to a new display.
 ghost use Rattle.std.specs.Prelude.{◌≡◌, ◌++◌, IfOk, OnOk};
 ghost use Rattle.state.specs.Model.{fault_of};
 ghost use Rattle.terms.specs.Presets.{preset};
@@ -9,9 +9,9 @@ ghost use Rattle.history.specs.Replays.{Happens, event_of, events_of};
 use display::display::Display;
 use list::BoundedList;
 use panel::Panel;
-use std::alloc::{AllocError, Global};
 use terms::fault::{DisplayFault, Fault};
 use terms::settings::Settings;
+use std::alloc::{AllocError, Global};
 
 mod words;
 
@@ -37,7 +37,7 @@ fn give_byte<P: Panel>(
     byte: u8,
     faults: &mut Vec<Fault>,
 ) -> Result<(), AllocError>
-    ensures { OnOk result (Happens cells puts paints (event_of (Happening.Byte byte)) display.old faults.old.items display.new faults.new.items) }
+    ensures { OnOk result (Happens P.cells P.puts P.paints (event_of (Happening.Byte byte)) display.old faults.old.items display.new faults.new.items) }
 {
     let mut places = [UNUSED; 2];
     let mut list = BoundedList::over(&mut places);
@@ -52,27 +52,23 @@ fn happen<P: Panel>(
     happening: Happening,
     faults: &mut Vec<Fault>,
 ) -> Result<(), AllocError>
-    ensures { OnOk result (Happens cells puts paints (event_of happening) display.old faults.old.items display.new faults.new.items) }
+    ensures { OnOk result (Happens P.cells P.puts P.paints (event_of happening) display.old faults.old.items display.new faults.new.items) }
 {
     match happening {
         Happening::Byte { byte } => give_byte(display, byte, faults),
         Happening::Tick => collect(faults, display.tick()),
-        Happening::Painted => {
-            display.painted();
-            Ok(())
-        }
     }
 }
 
-// Switches a new display on and gives it a script, each byte as a piece of its own; the faults are collected in order.
+// Switches a new display on and gives it a script byte by byte and tick by tick; the faults are collected in order.
 pub fn replay<P: Panel + Drop>(
     heap: Global,
     settings: Settings,
     panel: P,
     script: &[Happening],
 ) -> Result<Replayed<P>, AllocError>
-    ensures lived { IfOk result (λ x. Life P.Panel.cells P.Panel.puts P.Panel.paints (preset settings) (events_of script.now) x.faults.items x.display) }
-    ensures history { History P.Panel.cells P.Panel.puts P.Panel.paints P.Panel.cells P.Panel.puts P.Panel.paints }
+    ensures lived { IfOk result (λ x. Life P.cells P.puts P.paints (preset settings) (events_of script.now) x.faults.items x.display) }
+    ensures history { History P.cells P.puts P.paints P.cells P.puts P.paints }
 {
     let mut display = Display::switch_on(settings, panel);
     let mut faults = Vec::new(heap);

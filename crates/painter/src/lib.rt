@@ -1,4 +1,6 @@
 // What a painter asks of a display over a strip panel.
+#![tactic(auto)]
+
 ghost use Rattle.std.specs.Prelude.{◌≡◌, length};
 ghost use Rattle.strip.specs.Strip.{waiting_of};
 ghost use Rattle.painter.specs.Held.{HoldsWaiting};

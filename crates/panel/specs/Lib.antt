@@ -1,4 +1,3 @@
-pub mod Forty
 pub mod Laws
 pub mod Numbers
 pub mod Steps

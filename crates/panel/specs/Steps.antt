@@ -1,34 +1,53 @@
--- A stroke is drawn span by span: a span is a row of places one after another.
-use Rattle.std.specs.Prelude.{ℕ, ◌≤◌, cond, ◌&&◌, List, nat_le, nat_lt, slice_set}
-use Rattle.glass.specs.declared.area.Area.{Area}
+-- A stroke is drawn place by place: what one step of it leaves.
+use Rattle.std.specs.Prelude.{◌≡◌, ℕ, Bool, true, false, cond, ◌&&◌, List, ◌==◌, slice_set}
 use Rattle.glass.specs.declared.stroke.Ink.{Ink}
+use Rattle.glass.specs.declared.stroke.Ink.TheVariants.{Blank, BlankRow, Write, ShiftLeft, ShiftRight, ScrollUp, ScrollDown}
 use Rattle.glass.specs.declared.stroke.Stroke.{Stroke}
 use Rattle.glass.specs.Places.{column, line, place, holds, whole}
-use Rattle.glass.specs.Drawn.{seen, inked, redraw}
+use Rattle.glass.specs.Drawn.{seen, inked}
+
+-- whether an ink has a say at column x and row y
+abbrev pub touches : Ink → ℕ → ℕ → Bool
+touches Blank x y = true
+touches (BlankRow r) x y = y == r
+touches (Write c r v) x y = x == c && y == r
+touches (ShiftLeft r) x y = y == r
+touches (ShiftRight r) x y = y == r
+touches ScrollUp x y = true
+touches ScrollDown x y = true
+
+-- whether no cell comes from a lower place, so that the places can be drawn in rising order
+abbrev pub rises : Ink → Bool
+rises Blank = true
+rises (BlankRow r) = true
+rises (Write c r v) = true
+rises (ShiftLeft r) = true
+rises (ShiftRight r) = false
+rises ScrollUp = true
+rises ScrollDown = false
+
+-- whether no cell comes from a higher place
+abbrev pub falls : Ink → Bool
+falls Blank = true
+falls (BlankRow r) = true
+falls (Write c r v) = true
+falls (ShiftLeft r) = false
+falls (ShiftRight r) = true
+falls ScrollUp = false
+falls ScrollDown = true
+
+-- the ink touches no more than one column and row
+abbrev pub Only : Ink → ℕ → ℕ → Type 0
+Only ink c r = (x y : ℕ) → touches ink x y ≡ true → (x ≡ c) × (y ≡ r)
 
 -- the cell that a stroke leaves at a place of its area
 abbrev pub cell_at : Stroke → List ℕ → ℕ → ℕ
 cell_at s g k = inked s.ink (seen s.area g) (column k) (line k)
 
+-- the stroke at one place only
+abbrev pub stepped : Stroke → ℕ → List ℕ → List ℕ
+stepped s k g = cond (holds s.area (column k) (line k) && touches s.ink (column k) (line k)) (slice_set g k (cell_at s g k)) g
+
 -- a cell at a column and row; off the glass nothing is written
 abbrev pub written : ℕ → ℕ → ℕ → List ℕ → List ℕ
 written x y v g = cond (holds whole x y) (slice_set g (place x y) v) g
-
--- the places from first on that lie below end take f's cell, the others stay
-abbrev pub span : ℕ → ℕ → (ℕ → ℕ) → List ℕ → List ℕ
-span first end f g = redraw (λ k. nat_le first k && nat_lt k end) f g
-
-abbrev pub corners : ℕ → ℕ → ℕ → ℕ → Area
-corners x1 y1 x2 y2 = record { x1 = x1; y1 = y1; x2 = x2; y2 = y2 }
-
-abbrev pub inking : ℕ → ℕ → ℕ → ℕ → Ink → Stroke
-inking x1 y1 x2 y2 ink = record { area = corners x1 y1 x2 y2; ink = ink }
-
--- an area with a place, all of it on the glass
-pub record OnGlass (x1 y1 x2 y2 : ℕ) : Type 0 where
-  pub left : 1 ≤ x1
-  pub wide : x1 ≤ x2
-  pub right : x2 ≤ 20
-  pub top : 1 ≤ y1
-  pub high : y1 ≤ y2
-  pub bottom : y2 ≤ 2

@@ -1,4 +1,6 @@
 // Panels: forty cells behind one interface, and strokes drawn on any of them.
+#![tactic(auto)]
+
 pub mod draw;
 mod panel;
 mod plain;

@@ -1,4 +1,6 @@
 // `pole` carries out a script on displays and prints the answers (RULES, Script of the program).
+#![tactic(auto)]
+
 mod answers;
 mod play;
 mod show;

@@ -2,17 +2,15 @@
 use crate::{answers, show};
 use display::display::Display;
 use display::words::Question;
-use history::compare::same_lives;
+use history::compare::{same, same_faults};
 use history::replay::{Happening, replay};
 use items::walk::walk;
 use list::BoundedList;
-use painter::{Pending, waiting};
 use panel::{Panel, PlainPanel};
-use requests::parse::request;
-use requests::requests::{Make, Mistake, Request};
 use script::lines::Lines;
+use requests::parse::request;
+use requests::requests::{Mistake, Request};
 use script::words::{after_first, hex_bytes, words};
-use strip::{Change, StripPanel};
 use terms::fault::{DisplayFault, Fault};
 use terms::settings::Settings;
 
@@ -23,34 +21,6 @@ const MOST_PLACES: usize = 8192;
 const UNUSED: Fault = Fault::Said {
     fault: DisplayFault::WindowDefined,
 };
-
-// The most places of a strip panel.
-const MOST_CHANGES: usize = 64;
-
-// What a place for a change holds before it is used.
-const NO_CHANGE: Change = Change { place: 0, cell: 0 };
-
-// A replay over a strip panel has so many places, and is painted after each so many happenings: neither is what a script is likely to do.
-const REPLAY_PLACES: usize = 7;
-
-const REPLAY_PAINTS: usize = 5;
-
-// A panel of which the program knows whether it keeps a list of changes.
-trait Listed: Panel + Sized {
-    fn pending(display: &Display<Self>) -> Option<Pending>;
-}
-
-impl Listed for PlainPanel {
-    fn pending(_display: &Display<PlainPanel>) -> Option<Pending> {
-        None
-    }
-}
-
-impl<'a> Listed for StripPanel<'a> {
-    fn pending(display: &Display<StripPanel<'a>>) -> Option<Pending> {
-        Some(waiting(display))
-    }
-}
 
 // A script with the place that was reached in it, and the places that a feed lends.
 #[derive(Drop)]
@@ -65,7 +35,6 @@ pub struct Play<'r, 'a> {
 #[derive(Drop)]
 struct Life<P> {
     settings: Settings,
-    make: Make,
     display: Display<P>,
     happened: Vec<Happening>,
     faults: Vec<Fault>,
@@ -95,12 +64,8 @@ impl<'r, 'a> Play<'r, 'a> {
                         set,
                         table,
                         brightness,
-                        make,
                     },
-                ) => match Settings::check(set, table, brightness) {
-                    Ok(settings) => self.switch_on(settings, make)?,
-                    Err(refusal) => answers::refused(self.rt, refusal.number())?,
-                },
+                ) => self.switch_on(set, table, brightness)?,
                 Ok(request) => if !self.answer(request, words.as_slice())? {
                     self.error(Mistake::DisplayOff)?;
                 },
@@ -147,33 +112,26 @@ impl<'r, 'a> Play<'r, 'a> {
         Ok(())
     }
 
-    fn switch_on(&mut self, settings: Settings, make: Make) -> anyhow::Result<()> {
-        println!(self.rt; "on")?;
-        match make {
-            Make::Plain => self.play(settings, make, PlainPanel::new()),
-            Make::Strip { places } => {
-                let mut changes = [NO_CHANGE; MOST_CHANGES];
-                let lent = (places as usize).min(MOST_CHANGES);
-                self.play(settings, make, StripPanel::over(&mut changes[0..lent]))
+    fn switch_on(&mut self, set: u8, table: u8, brightness: u8) -> anyhow::Result<()> {
+        match Settings::check(set, table, brightness) {
+            Err(refusal) => answers::refused(self.rt, refusal.number()),
+            Ok(settings) => {
+                println!(self.rt; "on")?;
+                let heap = self.rt.alloc();
+                let display = Display::switch_on(settings, PlainPanel::new());
+                self.play(Life {
+                    settings,
+                    display,
+                    happened: Vec::new(heap),
+                    faults: Vec::new(heap),
+                })
             }
         }
     }
 
     // The lines while a display is on, over a panel of any make.
-    fn play<P: Listed + Drop>(
-        &mut self,
-        settings: Settings,
-        make: Make,
-        panel: P,
-    ) -> anyhow::Result<()> {
-        let heap = self.rt.alloc();
-        let mut life = Life {
-            settings,
-            make,
-            display: Display::switch_on(settings, panel),
-            happened: Vec::new(heap),
-            faults: Vec::new(heap),
-        };
+    fn play<P: Panel + Drop>(&mut self, life: Life<P>) -> anyhow::Result<()> {
+        let mut life = life;
         for _ in 0..u64::MAX {
             let Some(line) = self.lines.next() else {
                 break;
@@ -192,7 +150,6 @@ impl<'r, 'a> Play<'r, 'a> {
         }
         let Life {
             settings: _,
-            make: _,
             display,
             happened: _,
             faults: _,
@@ -201,7 +158,7 @@ impl<'r, 'a> Play<'r, 'a> {
         Ok(())
     }
 
-    fn say<P: Listed + Drop>(
+    fn say<P: Panel + Drop>(
         &mut self,
         life: &mut Life<P>,
         request: Request,
@@ -217,7 +174,6 @@ impl<'r, 'a> Play<'r, 'a> {
                 println!(self.rt; "painted")?;
                 Ok(())
             }
-            Request::Waiting => self.pending(&life.display),
             Request::Replay => self.replay(life),
             _ => self.ask(&life.display, request),
         }
@@ -296,51 +252,21 @@ impl<'r, 'a> Play<'r, 'a> {
         }
     }
 
-    fn pending<P: Listed>(&self, display: &Display<P>) -> anyhow::Result<()> {
-        match P::pending(display) {
-            Some(pending) => {
-                let count = pending.count;
-                let all = u8::from(pending.all);
-                println!(self.rt; "waiting {count} {all}")?;
-                Ok(())
-            }
-            None => self.error(Mistake::NoList),
-        }
-    }
-
-    // All that the display was given is given again to a new one over the other make of panel.
+    // All that the display was given is given again to a new one, byte by byte and tick by tick.
     fn replay<P: Panel>(&self, life: &Life<P>) -> anyhow::Result<()> {
-        match life.make {
-            Make::Strip { places: _ } => self.replay_over(life, PlainPanel::new()),
-            Make::Plain => {
-                let mut changes = [NO_CHANGE; REPLAY_PLACES];
-                self.replay_over(life, StripPanel::over(&mut changes))
-            }
+        let again = replay(
+            self.rt.alloc(),
+            life.settings,
+            PlainPanel::new(),
+            life.happened.as_slice(),
+        )?;
+        if same(&life.display, &again.display)
+            && same_faults(life.faults.as_slice(), again.faults.as_slice())
+        {
+            println!(self.rt; "same")?;
+        } else {
+            println!(self.rt; "different")?;
         }
-    }
-
-    // Byte by byte, and painted at moments of its own.
-    fn replay_over<P: Panel, Q: Panel + Drop>(
-        &self,
-        life: &Life<P>,
-        panel: Q,
-    ) -> anyhow::Result<()> {
-        let heap = self.rt.alloc();
-        let mut script = Vec::new(heap);
-        for (i, happening) in life.happened.iter().enumerate() {
-            script.push(*happening)?;
-            if i % REPLAY_PAINTS == 0 {
-                script.push(Happening::Painted)?;
-            }
-        }
-        let again = replay(heap, life.settings, panel, script.as_slice())?;
-        let agree = same_lives(
-            &life.display,
-            life.faults.as_slice(),
-            &again.display,
-            again.faults.as_slice(),
-        );
-        println!(self.rt; "{}", if agree { "same" } else { "different" })?;
         Ok(())
     }
 }

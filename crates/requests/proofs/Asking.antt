@@ -3,18 +3,17 @@ use Rattle.std.proofs.Common.{◌≡◌, ℕ, ◌-◌, ◌<◌, ◌≤◌, Bool,
 use Rattle.std.proofs.lemmas.Slice.Eq.{bytes_eq-Decides}
 use Rattle.std.proofs.lemmas.List.{take_rest}
 use Rattle.std.proofs.lemmas.Bool.{cond-true, cond-false, le-leb, lt-leb, cases_Bool}
-use Rattle.std.proofs.lemmas.Bool.Decides.{same_from_decides}
 use Rattle.std.specs.Str.{bytes_eq}
-use Rattle.script.specs.Figures.{number_of}
-use Rattle.script.specs.Splits.{texts}
 use Rattle.requests.specs.declared.requests.Keyword.{Keyword}
-use Rattle.requests.specs.declared.requests.Keyword.TheVariants.{On, Room, Feed, Text, Tick, Painted, Waiting, Cell, Cursor, Window, User, Macro, Lamp, Modes, Glass, Show, Items, Replay, Off}
-use Rattle.requests.specs.declared.requests.Make.TheVariants.{Plain}
+use Rattle.requests.specs.declared.requests.Keyword.TheVariants.{On, Room, Feed, Text, Tick, Painted, Cell, Cursor, Window, User, Macro, Lamp, Modes, Glass, Show, Items, Replay, Off}
 use Rattle.requests.specs.declared.requests.Mistake.{Mistake}
 use Rattle.requests.specs.declared.requests.Mistake.TheVariants.{FewWords, ManyWords, NoNumber, LargeNumber, NoMake}
 use Rattle.requests.specs.declared.requests.Request.{Request}
-use Rattle.requests.specs.Asked.{bounded, operand_of, alone_of, strip_asked, make_asked, Taken, request_of, asked_if}
+use Rattle.requests.specs.Asked.{bounded, operand_of, alone_of, plain_then, Taken, request_of, asked_if}
+use Rattle.script.specs.Figures.{number_of}
 use Rattle.requests.specs.Keywords.{name_of, found_in, keywords, keyword_of, KeywordsStand}
+use Rattle.script.specs.Splits.{texts}
+use Rattle.std.proofs.lemmas.Bool.Decides.{same_from_decides}
 
 pub texts_first : (ws : List (Bor (List ℕ))) (d : Bor (List ℕ)) → 0 < length ws → texts ws ≡ (get_or ws 0 d).now ∷ texts (drop 1 ws)
 texts_first [] d h = absurd (omega arith)
@@ -53,21 +52,12 @@ module _ (most : ℕ) (ws : List (Bor (List ℕ))) (d : Bor (List ℕ)) (o : Opt
   pub taken_ok : (n : ℕ) → o ≡ Some n → n ≤ most → (w : List ℕ) × (texts ws ≡ w ∷ texts (take (length ws - 1) (drop 1 ws))) × (operand_of most w ≡ Ok n)
   taken_ok n e h = ((get_or ws 0 d).now, first_of ws d some, ap (bounded most) (sym is ∙ e) ∙ cond-true (leb n most) _ _ (le-leb n most h))
 
-pub make_none : (ws : List (Bor (List ℕ))) → length ws ≤ 0 → Err FewWords ≡ make_asked (texts ws)
-make_none [] h = refl
-make_none (w ∷ ws) h = absurd (omega arith)
+pub plain_none : (r : Request) (ws : List (Bor (List ℕ))) → length ws ≤ 0 → Err FewWords ≡ plain_then (texts ws) (λ l. alone_of r l)
+plain_none r [] h = refl
+plain_none r (w ∷ ws) h = absurd (omega arith)
 
--- the make that the first word names
-module _ (ws : List (Bor (List ℕ))) (d : Bor (List ℕ)) (some : 0 < length ws) where
-  pub make_plain : bytes_eq (get_or ws 0 d).now (codes "plain") ≡ true → make_asked (texts ws) ≡ alone_of Plain (texts (take (length ws - 1) (drop 1 ws)))
-  make_plain p = ap make_asked (first_of ws d some) ∙ cond-true _ _ _ p
-
-  pub make_strip : bytes_eq (get_or ws 0 d).now (codes "plain") ≡ false → bytes_eq (get_or ws 0 d).now (codes "strip") ≡ true →
-      make_asked (texts ws) ≡ strip_asked (texts (take (length ws - 1) (drop 1 ws)))
-  make_strip p s = ap make_asked (first_of ws d some) ∙ cond-false _ _ _ p ∙ cond-true _ _ _ s
-
-  pub make_other : bytes_eq (get_or ws 0 d).now (codes "plain") ≡ false → bytes_eq (get_or ws 0 d).now (codes "strip") ≡ false → make_asked (texts ws) ≡ Err NoMake
-  make_other p s = ap make_asked (first_of ws d some) ∙ cond-false _ _ _ p ∙ cond-false _ _ _ s
+pub plain_first : (r : Request) (ws : List (Bor (List ℕ))) (d : Bor (List ℕ)) → 0 < length ws → plain_then (texts ws) (λ l. alone_of r l) ≡ cond (bytes_eq (get_or ws 0 d).now (codes "plain")) (alone_of r (texts (take (length ws - 1) (drop 1 ws)))) (Err NoMake)
+plain_first r ws d h = ap (λ l. plain_then l (λ k. alone_of r k)) (first_of ws d h)
 
 pub request_none : (ws : List (Bor (List ℕ))) → length ws ≤ 0 → request_of [] ≡ request_of (texts ws)
 request_none ws h = ap request_of (sym (texts_none ws h))
@@ -85,7 +75,6 @@ keyword_named Feed = refl
 keyword_named Text = refl
 keyword_named Tick = refl
 keyword_named Painted = refl
-keyword_named Waiting = refl
 keyword_named Cell = refl
 keyword_named Cursor = refl
 keyword_named Window = refl

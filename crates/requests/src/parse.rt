@@ -1,20 +1,19 @@
 // A line's words as a request.
 ghost use Rattle.std.specs.Prelude.{◌≡◌, ◌≤◌, IfOk};
-ghost use Rattle.script.specs.Splits.{texts};
-ghost use Rattle.requests.specs.Asked.{Taken, alone_of, one_asked, strip_asked, make_asked, cell_asked, on_asked, asked, request_of};
+ghost use Rattle.requests.specs.Asked.{Taken, alone_of, plain_then, one_asked, cell_asked, on_asked, asked, request_of};
 ghost use Rattle.requests.specs.Keywords.{name_of, keyword_of, KeywordsStand};
+ghost use Rattle.script.specs.Splits.{texts};
 
-use crate::requests::{Keyword, Make, Mistake, Request};
+use crate::requests::{Keyword, Mistake, Request};
 use script::digits::number;
 
-const KEYWORDS: [Keyword; 19] = [
+const KEYWORDS: [Keyword; 18] = [
     Keyword::On,
     Keyword::Room,
     Keyword::Feed,
     Keyword::Text,
     Keyword::Tick,
     Keyword::Painted,
-    Keyword::Waiting,
     Keyword::Cell,
     Keyword::Cursor,
     Keyword::Window,
@@ -39,7 +38,6 @@ fn name(keyword: Keyword) -> &'static [u8]
         Keyword::Text => b"text",
         Keyword::Tick => b"tick",
         Keyword::Painted => b"painted",
-        Keyword::Waiting => b"waiting",
         Keyword::Cell => b"cell",
         Keyword::Cursor => b"cursor",
         Keyword::Window => b"window",
@@ -124,28 +122,18 @@ fn cell(words: &[&[u8]]) -> Result<Request, Mistake>
     alone(Request::Cell { column, row }, rest)
 }
 
-// The make of the panel.
-fn panel_make(words: &[&[u8]]) -> Result<Make, Mistake>
-    ensures { result ≡ make_asked (texts words.now) }
+// The make of the panel, and what follows it.
+fn made_plain(request: Request, words: &[&[u8]]) -> Result<Request, Mistake>
+    ensures { result ≡ plain_then (texts words.now) (λ ws. alone_of request ws) }
 {
     if words.len() == 0 {
         return Err(Mistake::FewWords);
     }
-    if words[0] == b"plain" {
-        return alone(Make::Plain, &words[1..]);
+    if words[0] == b"plain".as_slice() {
+        alone(request, &words[1..])
+    } else {
+        Err(Mistake::NoMake)
     }
-    if words[0] == b"strip" {
-        return strip_make(&words[1..]);
-    }
-    Err(Mistake::NoMake)
-}
-
-fn strip_make(words: &[&[u8]]) -> Result<Make, Mistake>
-    ensures { result ≡ strip_asked (texts words.now) }
-{
-    Ok(Make::Strip {
-        places: one(64, words)?,
-    })
 }
 
 fn on(words: &[&[u8]]) -> Result<Request, Mistake>
@@ -154,12 +142,14 @@ fn on(words: &[&[u8]]) -> Result<Request, Mistake>
     let (set, rest) = byte_operand(words)?;
     let (table, rest) = byte_operand(rest)?;
     let (brightness, rest) = byte_operand(rest)?;
-    Ok(Request::On {
-        set,
-        table,
-        brightness,
-        make: panel_make(rest)?,
-    })
+    made_plain(
+        Request::On {
+            set,
+            table,
+            brightness,
+        },
+        rest,
+    )
 }
 
 // What a keyword asks for with the words after it.
@@ -177,7 +167,6 @@ fn asked(keyword: Keyword, words: &[&[u8]]) -> Result<Request, Mistake>
             count: one(1000000, words)?,
         }),
         Keyword::Painted => alone(Request::Painted, words),
-        Keyword::Waiting => alone(Request::Waiting, words),
         Keyword::Cell => cell(words),
         Keyword::Cursor => alone(Request::Cursor, words),
         Keyword::Window => Ok(Request::Window {

@@ -1,4 +1,6 @@
 // Worked runs of the rules, and tests of the calls.
+#![tactic(auto)]
+
 ghost use Rattle.samples.specs.Samples.{Samples};
 
 // Every run of the table shows what it must.

@@ -1,4 +1,6 @@
 // The state of a display but for its glass: what a byte and a tick do to it, and what is then to be drawn.
+#![tactic(auto)]
+
 pub mod cell;
 pub mod controller;
 pub mod lamp;

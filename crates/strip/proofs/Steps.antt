@@ -7,7 +7,6 @@ use Rattle.std.proofs.lemmas.Bool.{cases_lt, cases_eq, eq-eqb, ne_eqb, lt-ltb, c
 use Rattle.list.specs.declared.list.ListRefusal.{ListRefusal}
 use Rattle.list.specs.declared.list.ListRefusal.TheVariants.{Full}
 use Rattle.list.specs.Entries.{entries, places, capacity}
-use Rattle.panel.specs.Forty.{forty, forty_length}
 use Rattle.panel.specs.declared.panel.PanelRefusal.{PanelRefusal}
 use Rattle.panel.specs.declared.panel.PanelRefusal.TheVariants.{OffGlass}
 use Rattle.panel.specs.declared.plain.PlainPanel.{PlainPanel}
@@ -91,7 +90,7 @@ latest_cell p (c ∷ cs) k h =
         (get_or-set_other p c.place k c.cell 0 (λ e. n (sym e)) ∙ ap (λ o. or_else o (get_or p k 0)) (sym (cond-false (eqb c.place k) (Some c.cell) None (ne_eqb c.place k n))))
 
 pub latest_holds : Latest
-latest_holds s k h = latest_cell (picture_of s) (waiting_of s) k (omega (arith, forty_length s.picture.held))
+latest_holds s k h = latest_cell (picture_of s) (waiting_of s) k (omega (arith, s.picture.forty))
 
 -- what looking answers, by the latest change
 pub looked : (s : StripPanel) (k : ℕ) (o : Option ℕ) → k < 40 → o ≡ latest k (waiting_of s) →
@@ -99,8 +98,8 @@ pub looked : (s : StripPanel) (k : ℕ) (o : Option ℕ) → k < 40 → o ≡ la
 looked s k o h e = ap Ok (ap (λ x. or_else x (get_or (picture_of s) k 0)) e ∙ sym (latest_holds s k h)) ∙ sym (cond-true _ _ _ (lt-ltb k 40 h))
 
 -- a put on the picture, which is a plain panel; off the glass it changes nothing
-pub pictured : (p q : PlainPanel) (k v : ℕ) → (k < 40 → forty q.held ≡ set (forty p.held) k v) → (40 ≤ k → q ≡ p) → forty q.held ≡ set (forty p.held) k v
-pictured p q k v on off = ⊎_elim on (λ h. ap (λ x. forty x.held) (off h) ∙ sym (set_past (forty p.held) k v (omega (arith, forty_length p.held)))) (cases_lt k 40)
+pub pictured : (p q : PlainPanel) (k v : ℕ) → (k < 40 → q.held ≡ set p.held k v) → (40 ≤ k → q ≡ p) → q.held ≡ set p.held k v
+pictured p q k v on off = ⊎_elim on (λ h. ap (λ x. x.held) (off h) ∙ sym (set_past p.held k v (omega (arith, p.forty)))) (cases_lt k 40)
 
 -- an append is refused on a full list
 pub stuck : (a b : ℕ) (r : Result (Unit {0}) ListRefusal) → r ≡ cond (ltb a b) (Ok tt) (Err Full) → is_err r ≡ true → b ≤ a

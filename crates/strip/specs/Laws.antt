@@ -4,7 +4,6 @@ use Rattle.std.proofs.Common.{sym, ap, ◌∙◌, inl, inr, ⊎_elim, arith}
 use Rattle.std.proofs.lemmas.List.{length-set, length-take, nil_from_length}
 use Rattle.std.proofs.lemmas.Bool.{cases_lt}
 use Rattle.list.specs.Entries.{entries, places, capacity}
-use Rattle.panel.specs.Forty.{forty_length}
 use Rattle.panel.specs.Laws.{Laws}
 use Rattle.strip.specs.declared.strip.Change.{Change}
 use Rattle.strip.specs.declared.strip.StripPanel.{StripPanel}
@@ -45,7 +44,7 @@ painting s t h = merges t (cells_of s) [] h.picture h.none
 
 pub strip_laws : Laws cells_of (λ s k v t. Puts s (record { place = k; cell = v }) t) (λ s t. Paints s t)
 strip_laws = record {
-  forty = λ s. merged_length (picture_of s) (waiting_of s) ∙ forty_length s.picture.held;
+  forty = λ s. merged_length (picture_of s) (waiting_of s) ∙ s.picture.forty;
   putting = λ s t k v h. putting s t (record { place = k; cell = v }) h;
   painting = painting;
 }

@@ -23,8 +23,8 @@ use terms::settings::Settings;
 const LONGEST: usize = 4096;
 
 fn draw_some<P: Panel>(panel: &mut P, stroke: Option<Stroke>)
-    ensures cells { cells panel.new ≡ drawn_all (one stroke) (cells panel.old) }
-    ensures reached { Reached puts panel.old panel.new }
+    ensures cells { P.cells panel.new ≡ drawn_all (one stroke) (P.cells panel.old) }
+    ensures reached { Reached P.puts panel.old panel.new }
 {
     if let Some(stroke) = stroke {
         draw(panel, stroke);
@@ -32,8 +32,8 @@ fn draw_some<P: Panel>(panel: &mut P, stroke: Option<Stroke>)
 }
 
 fn draw_all<P: Panel>(panel: &mut P, strokes: Strokes)
-    ensures cells { cells panel.new ≡ drawn_all (strokes_of strokes) (cells panel.old) }
-    ensures reached { Reached puts panel.old panel.new }
+    ensures cells { P.cells panel.new ≡ drawn_all (strokes_of strokes) (P.cells panel.old) }
+    ensures reached { Reached P.puts panel.old panel.new }
 {
     draw_some(panel, strokes.first);
     draw_some(panel, strokes.second);
@@ -52,7 +52,7 @@ fn note(faults: &mut BoundedList<'_, Fault>, fault: Option<Fault>)
 impl<P: Panel> Display<P> {
     // A new display; all places are blanked.
     pub fn switch_on(settings: Settings, panel: P) -> Display<P>
-        ensures { SwitchesOn cells puts paints (preset settings) panel result }
+        ensures { SwitchesOn P.cells P.puts P.paints (preset settings) panel result }
     {
         let mut panel = panel;
         draw(
@@ -71,9 +71,9 @@ impl<P: Panel> Display<P> {
     // One byte, with its faults. Most bytes go the short way.
     fn take(&mut self, byte: u8, faults: &mut BoundedList<'_, Fault>)
         requires { length (entries faults.old) + 1 < capacity faults.old }
-        ensures state { view cells self.new ≡ next (view cells self.old) (byte_event byte) }
-        ensures grown { Grown faults.old (reply (byte_event byte) (view cells self.old)).faults faults.new }
-        ensures reached { Reached puts self.old.panel self.new.panel }
+        ensures state { view P.cells self.new ≡ next (view P.cells self.old) (byte_event byte) }
+        ensures grown { Grown faults.old (reply (byte_event byte) (view P.cells self.old)).faults faults.new }
+        ensures reached { Reached P.puts self.old.panel self.new.panel }
     {
         if self.controller.is_typing(byte) {
             let at = self.controller.cursor();
@@ -88,9 +88,9 @@ impl<P: Panel> Display<P> {
     // The way of any byte.
     fn take_long(&mut self, byte: u8, faults: &mut BoundedList<'_, Fault>)
         requires { length (entries faults.old) + 1 < capacity faults.old }
-        ensures state { view cells self.new ≡ next (view cells self.old) (byte_event byte) }
-        ensures grown { Grown faults.old (reply (byte_event byte) (view cells self.old)).faults faults.new }
-        ensures reached { Reached puts self.old.panel self.new.panel }
+        ensures state { view P.cells self.new ≡ next (view P.cells self.old) (byte_event byte) }
+        ensures grown { Grown faults.old (reply (byte_event byte) (view P.cells self.old)).faults faults.new }
+        ensures reached { Reached P.puts self.old.panel self.new.panel }
     {
         let answer = self.controller.byte(byte);
         draw_some(&mut self.panel, answer.ending);
@@ -105,7 +105,7 @@ impl<P: Panel> Display<P> {
         piece: &[u8],
         faults: &mut BoundedList<'_, Fault>,
     ) -> Result<usize, FeedRefusal>
-        ensures { Feeds cells puts paints self.old piece.now faults.old result self.new faults.new }
+        ensures { Feeds P.cells P.puts P.paints self.old piece.now faults.old result self.new faults.new }
     {
         if piece.len() > LONGEST {
             return Err(FeedRefusal::LongPiece);
@@ -122,7 +122,7 @@ impl<P: Panel> Display<P> {
 
     // Ten milliseconds pass; the fault that they give, if any, is answered.
     pub fn tick(&mut self) -> Option<Fault>
-        ensures { Ticks cells puts paints self.old result self.new }
+        ensures { Ticks P.cells P.puts P.paints self.old result self.new }
     {
         let reply = self.controller.tick();
         draw_all(&mut self.panel, reply.strokes);
@@ -131,13 +131,13 @@ impl<P: Panel> Display<P> {
 
     // Tells the panel that what it holds was painted.
     pub fn painted(&mut self)
-        ensures { Paints cells puts paints self.old self.new }
+        ensures { Paints P.cells P.puts P.paints self.old self.new }
     {
         self.panel.painted();
     }
 
     pub fn ask(&self, question: Question) -> Result<Answer, AskRefusal>
-        ensures { Asks cells puts paints self.now question result }
+        ensures { Asks P.cells P.puts P.paints self.now question result }
     {
         let controller = &self.controller;
         match question {
@@ -164,7 +164,7 @@ impl<P: Panel> Display<P> {
     }
 
     fn cell(&self, column: u8, row: u8) -> Result<Answer, AskRefusal>
-        ensures { Asks cells puts paints self.now (Question.Cell column row) result }
+        ensures { Asks P.cells P.puts P.paints self.now (Question.Cell column row) result }
     {
         if let Some(place) = place_at(column, row) {
             if let Ok(cell) = self.panel.look(place) {
@@ -183,7 +183,7 @@ impl<P: Panel> Display<P> {
 
     // Ends the display and gives its panel back.
     pub fn switch_off(self) -> P
-        ensures { SwitchesOff cells puts paints self result }
+        ensures { SwitchesOff P.cells P.puts P.paints self result }
     {
         let Display {
             panel,

@@ -4,7 +4,7 @@ use Rattle.history.proofs.compare.same_faults.Goals as goal
 
 pub loop-i-preserved : goal.loop-i-preserved
 loop-i-preserved c =
-    take_more_same c.args.a.now c.args.b.now c.loop-i.i _ c.loop-i-test.true (omega arith) c.loop-i.invariant (c.same-fault.ensures.0 c.if-not-same-fault.false)
+    take_more_same c.args.a.now c.args.b.now c.loop-i.i _ c.loop-i-test.true (omega arith) c.loop-i.invariant (c.same_fault.ensures.0 c.if-not-same_fault.false)
 
 pub returns : goal.returns
 returns c = (

@@ -7,7 +7,7 @@ pub returns-then-same : goal.returns-then-same
 returns-then-same g c =
     let p = g.P.Panel in
     let q = g.Q.Panel in
-    let both = c.same-faults.ensures in
+    let both = c.same_faults.ensures in
     record {
       answers = (λ e. (c.same.ensures.answers.0 c.if-same.true, both.0 e), λ h. both.1 h.1);
       twins = λ settings es la lb.

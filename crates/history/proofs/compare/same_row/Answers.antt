@@ -3,9 +3,9 @@ use Rattle.std.proofs.lemmas.Bool.{false≢true, both_ways}
 use Rattle.history.proofs.Compared.{row_all}
 use Rattle.history.proofs.compare.same_row.Goals as goal
 
-pub returns-then-not-same-at : goal.returns-then-not-same-at
-returns-then-not-same-at g c =
-    (λ e. absurd (false≢true e), λ h. absurd (both_ways c.same-at.result c.if-not-same-at.true (c.same-at.ensures.1 (h c.loop-column.column))))
+pub returns-then-not-same_at : goal.returns-then-not-same_at
+returns-then-not-same_at g c =
+    (λ e. absurd (false≢true e), λ h. absurd (both_ways c.same_at.result c.if-not-same_at.true (c.same_at.ensures.1 (h c.loop-column.column))))
 
 pub returns : goal.returns
 returns g c = (

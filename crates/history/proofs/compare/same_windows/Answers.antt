@@ -4,11 +4,11 @@ use Rattle.history.proofs.Compared.{windows_all}
 use Rattle.history.proofs.compare.same_windows.Goals as goal
 
 pub loop-number-preserved : goal.loop-number-preserved
-loop-number-preserved g c = below_more _ _ c.loop-number.invariant (c.same-at.ensures.0 c.if-not-same-at.false)
+loop-number-preserved g c = below_more _ _ c.loop-number.invariant (c.same_at.ensures.0 c.if-not-same_at.false)
 
-pub returns-then-not-same-at : goal.returns-then-not-same-at
-returns-then-not-same-at g c =
-    (λ e. absurd (false≢true e), λ h. absurd (both_ways c.same-at.result c.if-not-same-at.true (c.same-at.ensures.1 (h c.loop-number.number))))
+pub returns-then-not-same_at : goal.returns-then-not-same_at
+returns-then-not-same_at g c =
+    (λ e. absurd (false≢true e), λ h. absurd (both_ways c.same_at.result c.if-not-same_at.true (c.same_at.ensures.1 (h c.loop-number.number))))
 
 pub returns : goal.returns
 returns g c =

@@ -9,32 +9,32 @@ use Rattle.history.proofs.replay.replay.Goals as goal
 pub loop-happening-init : goal.loop-happening-init
 loop-happening-init g c =
     let p = g.P.Panel in
-    let d = c.switch-on-display.result in
+    let d = c.switch_on-display.result in
     subst (λ x. Calls p.cells p.puts p.paints d [] x d) (sym c.new-faults.ensures.items) none
 
 pub loop-happening-preserved : goal.loop-happening-preserved
 loop-happening-preserved g c =
     let p = g.P.Panel in
-    script_more p.cells p.puts p.paints c.switch-on-display.result c.loop-happening.display c.happen.new.display c.args.script.now c.loop-happening.happening-index _ _
-    (vec_items c.loop-happening.faults) (vec_items c.happen.new.faults) c.loop-happening-test.true refl c.loop-happening.invariant c.in-ok-happen.ensures
+    script_more p.cells p.puts p.paints c.switch_on-display.result c.loop-happening.display c.happen.new.display c.args.script.now c.loop-happening.happening-index _ _
+    (vec_items c.loop-happening.faults) (vec_items c.happen.new.faults) c.loop-happening-test.true refl c.loop-happening.invariant c.in_ok-happen.ensures
 
 pub returns : goal.returns
 returns g c =
     let p = g.P.Panel in
-    let d = c.switch-on-display.result in
+    let d = c.switch_on-display.result in
     record {
       lived = record {
         panel = c.args.panel;
         first = d;
-        on = c.switch-on-display.ensures;
+        on = c.switch_on-display.ensures;
         calls = subst (λ hs. Calls p.cells p.puts p.paints d (events_of hs) (vec_items c.loop-happening.faults) c.loop-happening.display)
             (take_all c.loop-happening.happening-index c.args.script.now c.loop-happening-test.false) c.loop-happening.invariant;
       };
       history = history p.cells p.puts p.paints p.laws p.cells p.puts p.paints p.laws;
     }
 
-pub returns-in-err-happen : goal.returns-in-err-happen
-returns-in-err-happen g c =
+pub returns-in_err-happen : goal.returns-in_err-happen
+returns-in_err-happen g c =
     let p = g.P.Panel in
     record {
       lived = search rules;

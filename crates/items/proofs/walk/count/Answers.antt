@@ -7,7 +7,7 @@ use Rattle.items.proofs.walk.count.Goals as goal
 
 pub loop-init : goal.loop-init
 loop-init c =
-    let made = c.into-iter-iterator.ensures.into-iter-gives in
+    let made = c.into_iter-iterator.ensures.into_iter_gives in
     let at = ap (λ (i : Items). i.at) made ∙ c.new-items.ensures.1 in
     (tt, tt, ap (λ (i : Items). i.buffer.now) made ∙ ap (λ x. x.now) c.new-items.ensures.0, subst (λ n. Tally c.args.buffer.now n 0) (sym at) (tally_none _))
 
@@ -17,8 +17,8 @@ again c m one =
     let part = subst (λ bs. PartAt bs c.loop.iterator'.at c.in-Some.field-0 c.next.new.self.at) c.loop.invariant.2 c.in-Some.ensures.steps.item in
     subst (Tally _ _) (sym one) (tally_more _ _ _ _ _ c.loop.invariant.3 part)
 
-pub overflow-add-n : goal.overflow-add-n
-overflow-add-n c =
+pub overflow_add-n : goal.overflow_add-n
+overflow_add-n c =
     let same = ap length (same_bytes _ _ _ c.in-Some.ensures.steps ∙ c.loop.invariant.2) in
     omega (arith, (again c _ refl).few, c.next.new.self.ok)
 

@@ -15,7 +15,7 @@ pub loop-i-init : goal.loop-i-init
 loop-i-init c = start _
 
 pub loop-i-preserved : goal.loop-i-preserved
-loop-i-preserved c = more _ _ _ _ (omega arith) c.take-step.ensures c.loop-i.invariant (sym c.ended.ensures ∙ c.in-default.is)
+loop-i-preserved c = more _ _ _ _ (omega arith) c.take-step.ensures c.loop-i.invariant (sym c.ended.ensures ∙ c.in_default.is)
 
 pub returns-in-Some : goal.returns-in-Some
 returns-in-Some c =

@@ -11,22 +11,22 @@ returns-in-Some g c =
     let x = c.args.column in
     let y = c.args.row in
     let cs = g.P.Panel.cells c.args.panel.now in
-    let at = placed_at x y c.in-Some.place c.in-Some.ensures in
-    let is : c.in-Some.place ≡ place x y = at.1 in
+    let at = placed_at x y c.in-Some.spot c.in-Some.ensures in
+    let is : c.in-Some.spot ≡ place x y = at.1 in
     let on = on_glass x y at.0 in
-    let low : c.in-Some.place < 40 = omega arith in
+    let low : c.in-Some.spot < 40 = omega arith in
     let h = c.put.ensures.puts low in
     record {
       cells = g.P.Panel.laws.putting _ _ _ _ h ∙ ap (λ k. set cs k c.args.cell) is ∙ sym (cond-true _ (set cs (place x y) c.args.cell) cs at.0);
       reached = reached_one _ _ low h;
     }
 
-pub returns-in-default : goal.returns-in-default
-returns-in-default g c =
+pub returns-in_default : goal.returns-in_default
+returns-in_default g c =
     let x = c.args.column in
     let y = c.args.row in
     let cs = g.P.Panel.cells c.args.panel.now in
     record {
-      cells = sym (cond-false _ (set cs (place x y) c.args.cell) cs (unplaced x y (sym c.in-default.is ∙ c.place-at.ensures)));
+      cells = sym (cond-false _ (set cs (place x y) c.args.cell) cs (unplaced x y (sym c.in_default.is ∙ c.place_at.ensures)));
       reached = none;
     }

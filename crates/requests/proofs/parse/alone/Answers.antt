@@ -1,6 +1,7 @@
 use Rattle.std.proofs.Common.{sym, ap, arith}
 use Rattle.requests.specs.Asked.{alone_of}
-use Rattle.requests.proofs.Asking.{alone_some, texts_none}
+use Rattle.requests.proofs.Asking.{alone_some}
+use Rattle.requests.proofs.Asking.{texts_none}
 use Rattle.requests.proofs.parse.alone.Goals as goal
 
 pub returns-then-words-gt0 : goal.returns-then-words-gt0

@@ -8,8 +8,8 @@ returns-then-word-ne2 c = record { value = search rules; always = reads_back }
 pub returns-in-Some-Some : goal.returns-in-Some-Some
 returns-in-Some-Some c = record { value = search (rules, pair_of); always = reads_back }
 
-pub returns-in-default : goal.returns-in-default
-returns-in-default c = record { value = search (rules, pair_of, no_low); always = reads_back }
+pub returns-in_default : goal.returns-in_default
+returns-in_default c = record { value = search (rules, pair_of, no_low); always = reads_back }
 
-pub returns-in-default·2 : goal.returns-in-default·2
-returns-in-default·2 c = record { value = search (rules, pair_of, no_low); always = reads_back }
+pub returns-in_default-2 : goal.returns-in_default-2
+returns-in_default-2 c = record { value = search (rules, pair_of, no_low); always = reads_back }

@@ -25,8 +25,8 @@ loop-byte-preserved g c = (
   reached_trans c.loop-byte.invariant.1 c.take.ensures.reached,
 )
 
-pub overflow-sub-result : goal.overflow-sub-result
-overflow-sub-result g c =
+pub overflow_sub-result : goal.overflow_sub-result
+overflow_sub-result g c =
     let l = c.args.faults.now in
     let fs = faults (view g.P.Panel.cells c.args.self.now) (map byte (take c.loop-byte.byte-index c.args.piece.now)) in
     let long : length (entries c.loop-byte.faults) ≡ length (entries l) + length fs = ap length c.loop-byte.invariant.0.grown.list ∙ length-append (entries l) fs in

@@ -28,12 +28,12 @@ returns g c =
     record {
       state =
           state_path _ _ r.core
-          (c.draw-all.ensures.cells
-          ∙ ap (drawn_all (strokes_of a.reply.strokes)) c.draw-some.ensures.cells
+          (c.draw_all.ensures.cells
+          ∙ ap (drawn_all (strokes_of a.reply.strokes)) c.draw_some.ensures.cells
           ∙ sym (drawn-append (one a.ending) (strokes_of a.reply.strokes) (cells p))
           ∙ ap (λ ss. drawn_all ss (cells p)) r.strokes);
       grown =
           subst (λ fs. Grown c.args.faults.now fs c.note-2.new.faults) r.faults
           (grown_more c.args.faults.now c.note.new.faults c.note-2.new.faults (fault_of a.overflow) (fault_of a.reply.fault) c.note.ensures c.note-2.ensures);
-      reached = reached_trans c.draw-some.ensures.reached c.draw-all.ensures.reached;
+      reached = reached_trans c.draw_some.ensures.reached c.draw_all.ensures.reached;
     }

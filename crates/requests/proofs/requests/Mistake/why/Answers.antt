@@ -22,6 +22,3 @@ returns-in-NoByte c = sym (ap why_of c.in-NoByte.is)
 
 pub returns-in-NoMake : goal.returns-in-NoMake
 returns-in-NoMake c = sym (ap why_of c.in-NoMake.is)
-
-pub returns-in-NoList : goal.returns-in-NoList
-returns-in-NoList c = sym (ap why_of c.in-NoList.is)

@@ -2,9 +2,9 @@ use Rattle.std.proofs.Common.{sym, refl, ◌∙◌, arith}
 use Rattle.strip.proofs.Steps.{pictured, stuck}
 use Rattle.strip.proofs.strip.StripPanel.add.Goals as goal
 
-pub returns-then-is-err : goal.returns-then-is-err
-returns-then-is-err c =
-    let full = stuck _ _ _ c.append.ensures.answer (sym c.is-err.ensures.value ∙ c.if-is-err.true) in
+pub returns-then-is_err : goal.returns-then-is_err
+returns-then-is_err c =
+    let full = stuck _ _ _ c.append.ensures.answer (sym c.is_err.ensures.value ∙ c.if-is_err.true) in
     record {
       room = λ l. absurd (omega (arith, full));
       full = λ _. (pictured _ _ c.args.place c.args.cell c.put.ensures.puts c.put.ensures.refused, c.append.ensures.refused full, refl);

@@ -19,4 +19,4 @@ loop-n-preserved-else-latest-place c =
     ∙ latest_other c.args.place (waiting_of c.args.self.now) _ c.in-Some.latest c.in-Some.ensures c.if-latest-place.false
 
 pub loop-n-preserved : goal.loop-n-preserved
-loop-n-preserved c = absurd (not_none (waiting_of c.args.self.now) _ (omega (arith, c.count-count.ensures.value, c.loop-n.auto.n)) c.in-default.ensures)
+loop-n-preserved c = absurd (not_none (waiting_of c.args.self.now) _ (omega (arith, c.count-count.ensures.value, c.loop-n.auto.n)) c.in_default.ensures)

@@ -5,7 +5,7 @@ use Rattle.list.specs.Entries.{entries, places}
 use Rattle.strip.specs.Strip.{picture_of, waiting_of, merged}
 use Rattle.strip.proofs.Steps.{merged_more, pictured, not_none}
 use Rattle.strip.proofs.strip.StripPanel.merge.Goals as goal
-use Rattle.strip.proofs.strip.StripPanel.merge.Goals.{in-Some, in-default}
+use Rattle.strip.proofs.strip.StripPanel.merge.Goals.{in-Some, in_default}
 
 pub loop-n-preserved : goal.loop-n-preserved
 loop-n-preserved c =
@@ -22,9 +22,9 @@ loop-n-preserved c =
             ap (λ t. t.changes) w.self-is ∙ same,
             ap (λ t. t.all) w.self-is ∙ c.loop-n.invariant.2,
           )
-      | in-default w ↦
+      | in_default w ↦
           absurd
-          (not_none (waiting_of s) n (omega (arith, c.count-n-end.ensures.value, c.loop-n-test.true)) (w.in-default.ensures ∙ ap (λ l. slice_get (entries l) n) same))
+          (not_none (waiting_of s) n (omega (arith, c.count-n-end.ensures.value, c.loop-n-test.true)) (w.in_default.ensures ∙ ap (λ l. slice_get (entries l) n) same))
     ]
 
 pub returns : goal.returns

@@ -7,6 +7,6 @@ pub returns : goal.returns
 returns c =
     record {
       answer = sym (cond-true _ _ _ (lt-ltb c.args.place 40 c.if-place-ge-PLACES.false));
-      puts = λ _. placed _ _ _ _ c.make-room.ensures c.add.ensures;
+      puts = λ _. placed _ _ _ _ c.make_room.ensures c.add.ensures;
       refused = λ h. absurd (omega (arith, c.if-place-ge-PLACES.false));
     }
