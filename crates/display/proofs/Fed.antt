@@ -4,7 +4,7 @@ use Rattle.std.proofs.lemmas.List.{append-nil, map-append, take_more, take_all, 
 use Rattle.list.specs.declared.list.BoundedList.{BoundedList}
 use Rattle.list.specs.Entries.{entries, places, capacity}
 use Rattle.terms.specs.declared.fault.Fault.{Fault}
-use Rattle.state.specs.Model.{State, Event, byte, next, after, faults, reply, fault_of}
+use Rattle.state.specs.Model.{State, byte, next, after, faults, reply, fault_of}
 use Rattle.state.proofs.Runs.{after-append, faults-append, few_faults}
 use Rattle.display.specs.Calls.{laid, Grown, feed_cause, room_needed, free}
 use Rattle.display.specs.declared.words.FeedRefusal.TheVariants.{LongPiece, FewPlaces}

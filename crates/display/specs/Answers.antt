@@ -1,7 +1,6 @@
 -- What a question is answered, from the state alone.
 use Rattle.std.specs.Prelude.{ℕ, List, Some, None, Ok, Err, Option, Result, slice_index}
 use Rattle.glass.specs.Places.{place_at}
-use Rattle.state.specs.Core.{Core}
 use Rattle.state.specs.Lamps.{lamp_lit}
 use Rattle.state.specs.Layouts.{cursor_of, window_area}
 use Rattle.state.specs.Questions.{modes_of, user_of, macro_of}

@@ -6,7 +6,7 @@ use Rattle.panel.specs.Laws.{Reached}
 use Rattle.terms.specs.declared.fault.Fault.{Fault}
 use Rattle.terms.specs.Presets.{Preset}
 use Rattle.state.specs.Core.{core_of}
-use Rattle.state.specs.Model.{State, Event, byte, tick, new, next, reply, after, faults, fault_of}
+use Rattle.state.specs.Model.{State, byte, tick, new, next, reply, after, faults, fault_of}
 use Rattle.display.specs.declared.words.Question.{Question}
 use Rattle.display.specs.declared.words.Answer.{Answer}
 use Rattle.display.specs.declared.words.AskRefusal.{AskRefusal}

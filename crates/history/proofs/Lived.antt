@@ -1,30 +1,28 @@
 -- The history theorem.
-use Rattle.std.proofs.Common.{◌≡◌, ℕ, Bool, true, false, List, [], ◌∷◌, ◌++◌, map, length, get_or, Some, None, Ok, Err, Option, Result, sym, refl, ap, ◌∙◌, subst, append_assoc, MatchOption}
+use Rattle.std.proofs.Common.{◌≡◌, ℕ, Bool, true, false, List, [], ◌∷◌, ◌++◌, map, Some, None, Ok, Option, Result, sym, refl, ap, ◌∙◌, subst, append_assoc, MatchOption}
 use Rattle.std.proofs.lemmas.List.{append-nil, append_cancel_left}
 use Rattle.std.proofs.lemmas.Bool.{cond-true, cond-false}
-use Rattle.glass.specs.Places.{holds, whole, inside, place, place_at}
-use Rattle.glass.specs.Drawn.{within}
+use Rattle.glass.specs.Places.{holds, whole, inside, place}
 use Rattle.list.specs.declared.list.BoundedList.{BoundedList}
 use Rattle.list.specs.Entries.{entries}
 use Rattle.panel.specs.Laws.{Laws}
 use Rattle.panel.proofs.Glass.{inside_within}
 use Rattle.terms.specs.declared.fault.Fault.{Fault}
 use Rattle.terms.specs.Presets.{Preset}
-use Rattle.state.specs.Core.{Core, window, core_of}
-use Rattle.state.specs.Model.{State, Event, byte, tick, new, next, after, faults, reply, fault_of, bytes_of, carried}
+use Rattle.state.specs.Core.{window, core_of}
+use Rattle.state.specs.Model.{State, Event, byte, tick, new, after, faults, reply, fault_of}
 use Rattle.state.proofs.Runs.{state_path, after-append, faults-append}
 use Rattle.display.specs.declared.words.Question.{Question}
 use Rattle.display.specs.declared.words.Question.TheVariants.{Cell, Cursor, Window, User, Macro, Lamp, Modes}
 use Rattle.display.specs.declared.words.Answer.{Answer}
-use Rattle.display.specs.declared.words.AskRefusal.{AskRefusal}
 use Rattle.display.specs.declared.words.FeedRefusal.{FeedRefusal}
 use Rattle.display.specs.declared.display.Display.{Display}
 use Rattle.display.specs.Answers.{answer, cell_at}
-use Rattle.display.specs.Calls.{view, feed_cause, Accepts, Refuses, Feeds, Ticks, Paints, Asks}
+use Rattle.display.specs.Calls.{view, feed_cause, Accepts, Refuses}
 use Rattle.history.specs.Lives.{accepted, Calls, none, fed, ticked, painted, asked, Life}
 use Rattle.history.specs.Compared.{Agree}
-use Rattle.history.specs.Confined.{Alike, Keeps, NoneTurns}
-use Rattle.history.specs.History.{Outside, Shows, Shown, Recalled, Same, Twins, Rejoined, Confines, ConfinedLives, History}
+use Rattle.history.specs.Confined.{Alike, Keeps}
+use Rattle.history.specs.History.{Outside, Shows, Shown, Recalled, Same, Twins, Rejoined, ConfinedLives, History}
 use Rattle.history.proofs.Recalled.{recalls}
 use Rattle.history.proofs.Confined.{confined}
 use Rattle.history.proofs.Runs.{after-length}

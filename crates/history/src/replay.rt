@@ -9,9 +9,9 @@ ghost use Rattle.history.specs.Replays.{Happens, event_of, events_of};
 use display::display::Display;
 use list::BoundedList;
 use panel::Panel;
+use std::alloc::{AllocError, Global};
 use terms::fault::{DisplayFault, Fault};
 use terms::settings::Settings;
-use std::alloc::{AllocError, Global};
 
 mod words;
 

@@ -6,13 +6,13 @@ use Rattle.panel.specs.Laws.{none}
 use Rattle.terms.specs.declared.fault.Fault.{Fault}
 use Rattle.display.specs.declared.display.Display.{Display}
 use Rattle.display.specs.declared.words.FeedRefusal.{FeedRefusal}
-use Rattle.display.specs.Calls.{feed_cause, Accepts, Refuses, Feeds}
+use Rattle.display.specs.Calls.{feed_cause, Accepts, Refuses}
 use Rattle.strip.specs.declared.strip.StripPanel.{StripPanel}
 use Rattle.strip.specs.Strip.{picture_of, waiting_of, merged, cells_of, Paints}
 use Rattle.strip.specs.Waiting.{puts_of, Grown, Overran, Kept}
 use Rattle.strip.proofs.Waiting.{keeps_waiting}
 use Rattle.painter.specs.Held.{HoldsWaiting}
-use Rattle.painter.specs.Screen.{painted_over, Current, ScreenShows}
+use Rattle.painter.specs.Screen.{Current, ScreenShows}
 
 feeds_keeps : (o : Option FeedRefusal) (d d' : Display StripPanel) (piece : List ℕ) (l l' : BoundedList Fault) (r : Result ℕ FeedRefusal) →
     MatchOption o (Accepts cells_of puts_of Paints d piece l r d' l') (λ e. Refuses cells_of puts_of Paints e d l r d' l') → Kept d.panel d'.panel

@@ -1,6 +1,6 @@
 -- The forms that a step of the reader has, told once for every reading and byte.
 -- Assumes nothing.
-use Rattle.std.proofs.Common.{◌≡◌, ℕ, ◌+◌, Bool, true, false, cond, ◌||◌, eqb, leb, List, [], ◌∷◌, Some, None, refl, ap, arith}
+use Rattle.std.proofs.Common.{◌≡◌, ℕ, ◌+◌, Bool, true, cond, ◌||◌, eqb, leb, List, [], ◌∷◌, Some, None, refl, ap, arith}
 use Rattle.std.proofs.lemmas.Bool.{cond_both, leb-true, leb-false, eqb-false, false≢true}
 use Rattle.reader.specs.declared.words.Command.{Command}
 use Rattle.reader.specs.declared.words.Command.TheVariants.{Define}

@@ -3,7 +3,7 @@ use Rattle.std.specs.Prelude.{◌≡◌, ℕ, List, [], ◌∷◌, ◌++◌, map
 use Rattle.terms.specs.declared.fault.Fault.{Fault}
 use Rattle.terms.specs.Faults.{inner, display_cause, display_first, display_second, display_operand}
 use Rattle.terms.specs.Presets.{Preset}
-use Rattle.state.specs.Model.{State, Event, byte, tick, new, after, faults}
+use Rattle.state.specs.Model.{Event, byte, tick, new, after, faults}
 
 -- a run's bytes and ticks, and the glass, the cursor and the faults that it must lead to
 pub record Sample : Type 0 where

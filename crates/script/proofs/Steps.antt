@@ -1,11 +1,11 @@
 -- Steps of the loops and of the reading of words. Assumes nothing.
-use Rattle.std.proofs.Common.{◌≡◌, ℕ, zero, suc, ◌+◌, ◌-◌, ◌*◌, ◌/◌, ◌%◌, ◌^◌, ◌<◌, ◌≤◌, Bool, true, false, cond, not, ◌&&◌, eqb, leb, ◌≢◌, ◌⊎◌, List, [], ◌∷◌, ◌++◌, map, length, get_or, take, drop, Some, None, Option, sym, refl, ap, ◌∙◌, subst, inl, inr, ⊎_elim, append_assoc, append-nil, pow-suc, add-one, arith, length-drop, Bor}
+use Rattle.std.proofs.Common.{◌≡◌, ℕ, zero, suc, ◌+◌, ◌-◌, ◌*◌, ◌/◌, ◌%◌, ◌^◌, ◌<◌, ◌≤◌, Bool, true, false, cond, not, eqb, ◌≢◌, ◌⊎◌, List, [], ◌∷◌, ◌++◌, length, get_or, take, drop, Some, None, Option, sym, refl, ap, ◌∙◌, subst, inl, inr, ⊎_elim, append_assoc, pow-suc, add-one, arith, length-drop, Bor}
 use native.Mathlib.Nat.{pow-le-pow_right}
 use Rattle.std.proofs.lemmas.List.{at_drop_more, at_drop_all, take_more, get_or-drop, take_rest}
 use Rattle.std.proofs.lemmas.Bool.{eq-eqb, ne_eqb, eqb-true, cond-true, cond-false, le-leb, and_from, and_parts, cases_Bool, not_from_false}
 use Rattle.std.proofs.lemmas.Bool.Decides.{nat_tests}
 use Rattle.std.specs.List.{flat_map, AllByRecursion}
-use Rattle.script.specs.Figures.{digit_value, decimal, if_digit, number_of, between, hex_value, hex_pair, hex_byte, hex_digit, hex_of, small, ReadsBack}
+use Rattle.script.specs.Figures.{digit_value, decimal, if_digit, number_of, between, hex_value, hex_pair, hex_byte, hex_digit, small, ReadsBack}
 use Rattle.script.specs.Rows.{line_size, LinesJoin}
 use Rattle.script.specs.Splits.{blank, texts, ended, gather, comment, words_of, after, if_byte, bytes_from, solid, no_blank, WordsStand}
 

@@ -1,6 +1,6 @@
 -- A cell taken apart: code in bits 0 to 7, table in 8 to 15, set in 16 to 23, mark in 40 and 41, and bit 42 for a user
 -- character. Assumes nothing.
-use Rattle.std.specs.Prelude.{◌≡◌, ℕ, ◌+◌, ◌*◌, ◌/◌, ◌%◌, ◌^◌, ◌<◌, Bool, false, cond, ◌&&◌, ◌==◌, nat_le}
+use Rattle.std.specs.Prelude.{◌≡◌, ℕ, ◌+◌, ◌*◌, ◌/◌, ◌%◌, ◌^◌, ◌<◌, false, cond, ◌&&◌, ◌==◌, nat_le}
 use Rattle.script.specs.declared.cells.CellParts.{CellParts}
 
 abbrev pub parts_of : ℕ → CellParts

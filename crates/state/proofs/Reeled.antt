@@ -1,7 +1,7 @@
 -- What the tape's bytes are after recording and playing, by the array and its length.
-use Rattle.std.proofs.Common.{◌≡◌, ℕ, ◌+◌, ◌-◌, ◌*◌, ◌<◌, ◌≤◌, Bool, true, false, cond, ◌&&◌, eqb, ltb, leb, List, [], ◌∷◌, ◌++◌, length, get_or, take, set, Some, None, Option, sym, refl, ap, ◌∙◌, subst, arith}
+use Rattle.std.proofs.Common.{◌≡◌, ℕ, ◌+◌, ◌-◌, ◌*◌, ◌<◌, ◌≤◌, Bool, true, false, cond, ◌&&◌, ltb, leb, List, [], ◌∷◌, ◌++◌, length, get_or, take, set, Some, None, sym, refl, ap, ◌∙◌, arith}
 use Rattle.std.proofs.lemmas.List.{length-take-le, take-take, take_more_set, get_or-take}
-use Rattle.std.proofs.lemmas.Bool.{cond-true, cond-false, lt-ltb, le-ltb, le-leb, lt-leb, leb-true, ltb-true, and_parts, and_from}
+use Rattle.std.proofs.lemmas.Bool.{cond-true, lt-ltb, le-leb, lt-leb, leb-true, ltb-true, and_parts, and_from}
 use Rattle.terms.specs.declared.fault.DisplayFault.TheVariants.{RecordingFull}
 use Rattle.state.specs.declared.tape.Use.{Use}
 use Rattle.state.specs.declared.tape.Use.TheVariants.{Blank, Recording, Stored, Playing}

@@ -1,5 +1,5 @@
 -- What each command does.
-use Rattle.std.specs.Prelude.{ℕ, Bool, true, false, List, [], ◌∷◌, ◌++◌, Some, None, Ok, Err, Option, Result}
+use Rattle.std.specs.Prelude.{ℕ, Bool, List, [], ◌∷◌, ◌++◌, Some, None, Ok, Err, Option, Result}
 use Rattle.glass.specs.declared.area.Area.{Area}
 use Rattle.glass.specs.Places.{whole}
 use Rattle.glass.specs.declared.stroke.Ink.{Ink}
@@ -25,7 +25,7 @@ use Rattle.state.specs.Users.{user_at, user_set}
 use Rattle.state.specs.Tapes.{Turned, recorded, playing}
 use Rattle.state.specs.Lamps.{lamp_set}
 use Rattle.state.specs.Moves.{toward}
-use Rattle.state.specs.Layouts.{Layout, Turn, stepped, jumped, turning, cancelling, defining, going}
+use Rattle.state.specs.Layouts.{Turn, stepped, jumped, turning, cancelling, defining, going}
 use Rattle.state.specs.Core.{Core, fresh, window, with_layout, with_pen, with_shown, with_brightness, with_lamp, with_selected, with_users, with_tape}
 
 -- the state after a command, and what it draws or why it is refused

@@ -1,5 +1,5 @@
 -- Where the cursor goes inside an area, and what is then drawn.
-use Rattle.std.specs.Prelude.{ℕ, ◌+◌, ◌-◌, cond, Some, None, Option, nat_lt}
+use Rattle.std.specs.Prelude.{ℕ, ◌+◌, ◌-◌, cond, Some, None, nat_lt}
 use Rattle.glass.specs.declared.area.Area.{Area}
 use Rattle.glass.specs.declared.stroke.Ink.{Ink}
 use Rattle.glass.specs.declared.stroke.Ink.TheVariants.{ShiftLeft, ShiftRight, ScrollUp, ScrollDown}

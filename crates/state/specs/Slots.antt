@@ -1,5 +1,5 @@
 -- Windows by their slots.
-use Rattle.std.specs.Prelude.{ℕ, Bool, true, false, ◌&&◌, Some, None, Option, ◌==◌}
+use Rattle.std.specs.Prelude.{Bool, true, false, ◌&&◌, Some, None, Option, ◌==◌}
 use Rattle.glass.specs.declared.area.Area.{Area}
 use Rattle.glass.specs.Places.{whole, lawful, apart}
 use Rattle.reader.specs.declared.words.Slot.{Slot}

@@ -1,5 +1,5 @@
 -- Recording and playing.
-use Rattle.std.specs.Prelude.{ℕ, ◌+◌, ◌-◌, ◌*◌, Bool, true, false, cond, ◌&&◌, List, [], ◌∷◌, ◌++◌, length, take, Some, None, Ok, Err, Option, Result, nat_le, nat_lt, slice_index}
+use Rattle.std.specs.Prelude.{ℕ, ◌+◌, ◌-◌, ◌*◌, Bool, cond, ◌&&◌, List, [], ◌∷◌, ◌++◌, length, take, Some, None, Ok, Err, Option, Result, nat_le, nat_lt, slice_index}
 use Rattle.terms.specs.declared.fault.DisplayFault.{DisplayFault}
 use Rattle.terms.specs.declared.fault.DisplayFault.TheVariants.{PlayRefused, NoMacro, RecordingFull}
 use Rattle.state.specs.declared.tape.Use.{Use}

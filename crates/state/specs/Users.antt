@@ -1,5 +1,5 @@
 -- User characters by their codes, 20h to FFh.
-use Rattle.std.specs.Prelude.{ℕ, ◌-◌, cond, List, replicate, Some, None, Option, nat_lt, slice_index_or, slice_set}
+use Rattle.std.specs.Prelude.{ℕ, ◌-◌, cond, List, replicate, None, Option, nat_lt, slice_index_or, slice_set}
 use Rattle.state.specs.declared.users.Users.{Users}
 
 -- one place for each code; a defined character has five columns

@@ -1,7 +1,7 @@
 -- Changes one by one.
-use Rattle.std.proofs.Common.{◌≡◌, ℕ, ◌+◌, ◌-◌, ◌<◌, ◌≤◌, Bool, true, false, cond, eqb, ltb, List, [], ◌∷◌, ◌++◌, length, get_or, take, set, is_err, Some, None, Ok, Err, Option, Result, sym, refl, ap, ◌∙◌, subst, ⊎_elim, arith}
+use Rattle.std.proofs.Common.{◌≡◌, ℕ, ◌+◌, ◌-◌, ◌<◌, ◌≤◌, true, cond, eqb, ltb, List, [], ◌∷◌, ◌++◌, length, get_or, take, set, is_err, Some, None, Ok, Err, Option, Result, sym, refl, ap, ◌∙◌, subst, ⊎_elim, arith}
 use Rattle.std.specs.List.{slice_get}
-use Rattle.std.proofs.lemmas.List.{take_more, get_or-set_same, get_or-set_other, length-set, set_past}
+use Rattle.std.proofs.lemmas.List.{take_more, get_or-set_same, get_or-set_other, length-set}
 use Rattle.std.proofs.lemmas.Option.{slice_get-get_or, slice_get_past}
 use Rattle.std.proofs.lemmas.Bool.{cases_lt, cases_eq, eq-eqb, ne_eqb, lt-ltb, cond-true, cond-false, false≢true}
 use Rattle.list.specs.declared.list.ListRefusal.{ListRefusal}
@@ -9,9 +9,9 @@ use Rattle.list.specs.declared.list.ListRefusal.TheVariants.{Full}
 use Rattle.list.specs.Entries.{entries, places, capacity}
 use Rattle.panel.specs.declared.panel.PanelRefusal.{PanelRefusal}
 use Rattle.panel.specs.declared.panel.PanelRefusal.TheVariants.{OffGlass}
-use Rattle.panel.specs.declared.plain.PlainPanel.{PlainPanel}
 use Rattle.strip.specs.declared.strip.Change.{Change}
 use Rattle.strip.specs.declared.strip.StripPanel.{StripPanel}
+use Rattle.strip.specs.Forty.{forty_length}
 use Rattle.strip.specs.Strip.{picture_of, waiting_of, merged, cells_of, Appends, Overflows, Writes, Roomed, Added, Puts}
 use Rattle.strip.specs.Latest.{later, latest, or_else, Latest}
 use Rattle.strip.specs.Laws.{merged_push, none_waits}
@@ -90,16 +90,12 @@ latest_cell p (c ∷ cs) k h =
         (get_or-set_other p c.place k c.cell 0 (λ e. n (sym e)) ∙ ap (λ o. or_else o (get_or p k 0)) (sym (cond-false (eqb c.place k) (Some c.cell) None (ne_eqb c.place k n))))
 
 pub latest_holds : Latest
-latest_holds s k h = latest_cell (picture_of s) (waiting_of s) k (omega (arith, s.picture.forty))
+latest_holds s k h = latest_cell (picture_of s) (waiting_of s) k (omega (arith, forty_length s.picture.held))
 
 -- what looking answers, by the latest change
 pub looked : (s : StripPanel) (k : ℕ) (o : Option ℕ) → k < 40 → o ≡ latest k (waiting_of s) →
     ◌≡◌ {A = Result ℕ PanelRefusal} (Ok (or_else o (get_or (picture_of s) k 0))) (cond (ltb k 40) (Ok (get_or (cells_of s) k 0)) (Err OffGlass))
 looked s k o h e = ap Ok (ap (λ x. or_else x (get_or (picture_of s) k 0)) e ∙ sym (latest_holds s k h)) ∙ sym (cond-true _ _ _ (lt-ltb k 40 h))
-
--- a put on the picture, which is a plain panel; off the glass it changes nothing
-pub pictured : (p q : PlainPanel) (k v : ℕ) → (k < 40 → q.held ≡ set p.held k v) → (40 ≤ k → q ≡ p) → q.held ≡ set p.held k v
-pictured p q k v on off = ⊎_elim on (λ h. ap (λ x. x.held) (off h) ∙ sym (set_past p.held k v (omega (arith, p.forty)))) (cases_lt k 40)
 
 -- an append is refused on a full list
 pub stuck : (a b : ℕ) (r : Result (Unit {0}) ListRefusal) → r ≡ cond (ltb a b) (Ok tt) (Err Full) → is_err r ≡ true → b ≤ a

@@ -1,13 +1,13 @@
 -- Puts alone lose nothing that waits, unless they raise the flag.
-use Rattle.std.proofs.Common.{◌≡◌, ℕ, ◌<◌, ◌≤◌, ◌⊎◌, List, [], ◌∷◌, ◌++◌, length, set, sym, refl, ap, ◌∙◌, inl, inr, ⊎_elim, append_assoc, arith}
+use Rattle.std.proofs.Common.{◌≡◌, ℕ, ◌<◌, ◌⊎◌, [], ◌∷◌, ◌++◌, length, sym, refl, ap, ◌∙◌, inl, inr, ⊎_elim, append_assoc, arith}
 use Rattle.std.proofs.lemmas.List.{append-nil, length-set}
 use Rattle.std.proofs.lemmas.Bool.{cases_lt}
-use Rattle.list.specs.Entries.{places, capacity}
+use Rattle.list.specs.Entries.{capacity}
 use Rattle.panel.specs.Laws.{Reached, none, more}
 use Rattle.panel.proofs.Puts.{reached_one}
 use Rattle.strip.specs.declared.strip.Change.{Change}
 use Rattle.strip.specs.declared.strip.StripPanel.{StripPanel}
-use Rattle.strip.specs.Strip.{picture_of, waiting_of, merged, cells_of, Puts, Appends, Overflows, Writes}
+use Rattle.strip.specs.Strip.{picture_of, waiting_of, merged, Puts, Appends, Overflows, Writes}
 use Rattle.strip.specs.Waiting.{puts_of, Grown, Overran, Kept, KeepsWaiting}
 
 -- which of the three cases of a put it was

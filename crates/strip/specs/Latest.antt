@@ -1,5 +1,5 @@
 -- A cell is the latest change for its place, or else the picture's.
-use Rattle.std.specs.Prelude.{◌≡◌, ℕ, ◌<◌, cond, List, [], ◌∷◌, length, Some, None, Option, ◌==◌, slice_index}
+use Rattle.std.specs.Prelude.{◌≡◌, ℕ, ◌<◌, cond, List, [], ◌∷◌, Some, None, Option, ◌==◌, slice_index}
 use Rattle.strip.specs.declared.strip.Change.{Change}
 use Rattle.strip.specs.declared.strip.StripPanel.{StripPanel}
 use Rattle.strip.specs.Strip.{picture_of, waiting_of, cells_of}

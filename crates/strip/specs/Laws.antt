@@ -1,10 +1,11 @@
 -- The laws of a panel, at the strip panel.
-use Rattle.std.specs.Prelude.{◌≡◌, ℕ, ◌<◌, ◌≤◌, ◌⊎◌, List, [], ◌∷◌, ◌++◌, length, slice_set, refl}
-use Rattle.std.proofs.Common.{sym, ap, ◌∙◌, inl, inr, ⊎_elim, arith}
+use Rattle.std.specs.Prelude.{◌≡◌, ℕ, ◌<◌, ◌≤◌, List, [], ◌∷◌, ◌++◌, length, slice_set, refl}
+use Rattle.std.proofs.Common.{sym, ap, ◌∙◌, ⊎_elim, arith}
 use Rattle.std.proofs.lemmas.List.{length-set, length-take, nil_from_length}
 use Rattle.std.proofs.lemmas.Bool.{cases_lt}
-use Rattle.list.specs.Entries.{entries, places, capacity}
+use Rattle.list.specs.Entries.{places, capacity}
 use Rattle.panel.specs.Laws.{Laws}
+use Rattle.strip.specs.Forty.{forty_length}
 use Rattle.strip.specs.declared.strip.Change.{Change}
 use Rattle.strip.specs.declared.strip.StripPanel.{StripPanel}
 use Rattle.strip.specs.Strip.{picture_of, waiting_of, merged, cells_of, Puts, Paints}
@@ -44,7 +45,7 @@ painting s t h = merges t (cells_of s) [] h.picture h.none
 
 pub strip_laws : Laws cells_of (λ s k v t. Puts s (record { place = k; cell = v }) t) (λ s t. Paints s t)
 strip_laws = record {
-  forty = λ s. merged_length (picture_of s) (waiting_of s) ∙ s.picture.forty;
+  forty = λ s. merged_length (picture_of s) (waiting_of s) ∙ forty_length s.picture.held;
   putting = λ s t k v h. putting s t (record { place = k; cell = v }) h;
   painting = painting;
 }

@@ -1,3 +1,4 @@
+pub mod Forty
 pub mod Strip
 pub mod Latest
 pub mod Laws

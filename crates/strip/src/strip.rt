@@ -5,8 +5,8 @@ ghost use Rattle.list.specs.Entries.{places as places_of};
 ghost use Rattle.strip.specs.Strip.{picture_of, waiting_of};
 ghost use Rattle.strip.specs.Waiting.{KeepsWaiting};
 
+use crate::picture::Picture;
 use list::BoundedList;
-use panel::PlainPanel;
 
 pub mod cells;
 
@@ -20,7 +20,7 @@ pub struct Change {
 // The changes came after the picture, oldest first; `all` is the flag that tells the painter to paint all places.
 #[derive(Drop)]
 pub struct StripPanel<'a> {
-    picture: PlainPanel,
+    picture: Picture,
     changes: BoundedList<'a, Change>,
     all: bool,
 }
@@ -35,7 +35,7 @@ impl<'a> StripPanel<'a> {
         ensures lent { result.changes.slots.ghost_name ≡ places.entry.ghost_name }
     {
         StripPanel {
-            picture: PlainPanel::new(),
+            picture: Picture::blank(),
             changes: BoundedList::over(places),
             all: false,
         }

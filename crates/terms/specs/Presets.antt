@@ -1,5 +1,5 @@
 -- Settings: their numbers, and why numbers are refused.
-use Rattle.std.specs.Prelude.{◌≡◌, ℕ, Bool, cond, ◌&&◌, Some, None, Ok, Err, Option, Result, nat_le, nat_lt}
+use Rattle.std.specs.Prelude.{◌≡◌, ℕ, cond, ◌&&◌, Some, None, Ok, Err, Option, Result, nat_le, nat_lt}
 use Rattle.terms.specs.declared.settings.Settings.{Settings}
 use Rattle.terms.specs.declared.settings.SettingsRefusal.{SettingsRefusal}
 use Rattle.terms.specs.declared.settings.SettingsRefusal.TheVariants.{Set, Table, Brightness}

@@ -31,7 +31,7 @@ impl StripPanel<'_> {
     {
         for n in 0..self.changes.count() {
             if let Some(change) = self.changes.nth(n) {
-                let _ = self.picture.put(change.place, change.cell);
+                self.picture.put(change.place, change.cell);
             }
         }
         self.changes.clear();
@@ -52,7 +52,7 @@ impl StripPanel<'_> {
         ensures { Added self.old (record { place = place; cell = cell }) self.new }
     {
         if self.changes.append(Change { place, cell }).is_err() {
-            let _ = self.picture.put(place, cell);
+            self.picture.put(place, cell);
         }
     }
 }
@@ -84,7 +84,7 @@ impl<'a> Panel for StripPanel<'a> {
         }
         match self.latest(place) {
             Some(cell) => Ok(cell),
-            None => self.picture.look(place),
+            None => Ok(self.picture.look(place)),
         }
     }
 

@@ -1,4 +1,4 @@
-use Rattle.std.proofs.Common.{[], take, vec_items, sym, refl, subst, rules}
+use Rattle.std.proofs.Common.{[], vec_items, sym, refl, subst, rules}
 use Rattle.std.proofs.lemmas.List.{take_all}
 use Rattle.history.specs.Lives.{Calls, none}
 use Rattle.history.specs.Replays.{events_of}

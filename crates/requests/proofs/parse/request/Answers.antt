@@ -1,5 +1,4 @@
-use Rattle.std.proofs.Common.{sym, ap, ◌∙◌, arith}
-use Rattle.requests.specs.Asked.{asked_if}
+use Rattle.std.proofs.Common.{sym, ◌∙◌, arith}
 use Rattle.requests.proofs.Asking.{request_none, request_first, keywords_stand}
 use Rattle.requests.proofs.parse.request.Goals as goal
 

@@ -1,6 +1,6 @@
-use Rattle.std.proofs.Common.{true, sym, ap, ◌∙◌, arith}
+use Rattle.std.proofs.Common.{sym, ◌∙◌, arith}
 use Rattle.std.proofs.lemmas.List.{at_drop_all}
-use Rattle.script.specs.Figures.{decimal, if_digit}
+use Rattle.script.specs.Figures.{decimal}
 use Rattle.script.proofs.Steps.{digit_more, ten_more, nine_fit, sized}
 use Rattle.script.proofs.digits.number.Goals as goal
 

@@ -1,4 +1,4 @@
-use Rattle.std.proofs.Common.{◌≡◌, ◌+◌, ◌-◌, ◌≤◌, [], ◌++◌, take, drop, vec_items, sym, ap, ◌∙◌, subst, arith}
+use Rattle.std.proofs.Common.{◌+◌, ◌-◌, ◌++◌, take, drop, vec_items, sym, ap, ◌∙◌, arith}
 use Rattle.script.specs.Splits.{texts, gather}
 use Rattle.script.proofs.Steps.{blank_step, solid_step, words_end}
 use Rattle.script.proofs.words.split.Goals as goal

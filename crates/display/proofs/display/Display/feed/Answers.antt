@@ -1,6 +1,6 @@
-use Rattle.std.proofs.Common.{◌≡◌, ◌+◌, ◌-◌, ◌≤◌, map, length, take, Ok, sym, refl, ap, ◌∙◌, subst, arith, MatchOption}
+use Rattle.std.proofs.Common.{◌≡◌, ◌+◌, ◌-◌, map, length, take, Ok, sym, refl, ap, ◌∙◌, subst, arith, MatchOption}
 use Rattle.std.proofs.lemmas.List.{length-append}
-use Rattle.list.specs.Entries.{entries, capacity}
+use Rattle.list.specs.Entries.{entries}
 use Rattle.panel.specs.Laws.{none}
 use Rattle.panel.proofs.Puts.{reached_trans}
 use Rattle.state.specs.Model.{byte, faults}

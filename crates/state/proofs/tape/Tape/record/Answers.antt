@@ -1,4 +1,4 @@
-use Rattle.std.proofs.Common.{◌≡◌, ◌≤◌, length, take, sym, ap, ◌∙◌, arith}
+use Rattle.std.proofs.Common.{◌≤◌, length, take, sym, ap, ◌∙◌, arith}
 use Rattle.state.specs.Tapes.{recorded_by}
 use Rattle.state.proofs.Reeled.{closes, most}
 use Rattle.state.proofs.tape.Tape.record.Goals as goal

@@ -1,4 +1,4 @@
-use Rattle.std.proofs.Common.{◌≡◌, ◌≤◌, length, take, sym, ap, ◌∙◌, arith}
+use Rattle.std.proofs.Common.{◌≤◌, length, take, sym, ap, ◌∙◌, arith}
 use Rattle.state.specs.Tapes.{overflow_by, stored_by}
 use Rattle.state.proofs.Reeled.{stores, no_overflow, most}
 use Rattle.state.proofs.tape.Tape.store.Goals as goal

@@ -1,4 +1,4 @@
-use Rattle.std.proofs.Common.{◌≡◌, true, sym, ap, ◌∙◌, subst}
+use Rattle.std.proofs.Common.{ap, ◌∙◌}
 use Rattle.glass.specs.Places.{holds}
 use Rattle.state.specs.Slots.{area_of}
 use Rattle.state.proofs.Kept.{fit_area}

@@ -1,9 +1,9 @@
-use Rattle.std.proofs.Common.{◌≡◌, take, set, sym, refl, ap, ◌∙◌, arith}
+use Rattle.std.proofs.Common.{◌≡◌, take, set, sym, ap, ◌∙◌, arith}
 use Rattle.std.specs.List.{slice_get}
 use Rattle.std.proofs.lemmas.List.{take_all}
 use Rattle.list.specs.Entries.{entries, places}
 use Rattle.strip.specs.Strip.{picture_of, waiting_of, merged}
-use Rattle.strip.proofs.Steps.{merged_more, pictured, not_none}
+use Rattle.strip.proofs.Steps.{merged_more, not_none}
 use Rattle.strip.proofs.strip.StripPanel.merge.Goals as goal
 use Rattle.strip.proofs.strip.StripPanel.merge.Goals.{in-Some, in_default}
 
@@ -16,7 +16,7 @@ loop-n-preserved c =
       | in-Some w ↦
           let x = w.in-Some.change in (
             ap picture_of w.self-is
-                ∙ pictured _ _ x.place x.cell w.put.ensures.puts w.put.ensures.refused
+                ∙ w.put.ensures
                 ∙ ap (λ p. set p x.place x.cell) c.loop-n.invariant.0
                 ∙ sym (merged_more (picture_of s) (waiting_of s) n x (w.in-Some.ensures ∙ ap (λ l. slice_get (entries l) n) same)),
             ap (λ t. t.changes) w.self-is ∙ same,

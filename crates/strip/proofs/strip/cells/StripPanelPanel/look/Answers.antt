@@ -1,5 +1,5 @@
-use Rattle.std.proofs.Common.{sym, ◌∙◌, arith}
-use Rattle.std.proofs.lemmas.Bool.{lt-ltb, le-ltb, cond-true, cond-false}
+use Rattle.std.proofs.Common.{Ok, sym, ap, ◌∙◌}
+use Rattle.std.proofs.lemmas.Bool.{le-ltb, cond-false}
 use Rattle.strip.proofs.Steps.{latest_holds, looked}
 use Rattle.strip.proofs.strip.cells.StripPanelPanel.look.Goals as goal
 
@@ -12,6 +12,6 @@ returns-in-Some c = record { cell = looked c.args.self.now c.args.place _ c.if-p
 pub returns-in-None : goal.returns-in-None
 returns-in-None c =
     record {
-      cell = c.look.ensures ∙ cond-true _ _ _ (lt-ltb c.args.place 40 c.if-place-ge-PLACES.false) ∙ looked c.args.self.now c.args.place _ c.if-place-ge-PLACES.false c.in-None.ensures;
+      cell = ap Ok c.look.ensures ∙ looked c.args.self.now c.args.place _ c.if-place-ge-PLACES.false c.in-None.ensures;
       latest = latest_holds;
     }
