@@ -1,7 +1,7 @@
 """A till's day by the rule of crates/bench/src/day.rt, for the display or for a terminal: day.py pole|terminal SALES OUT.
 
 Both have the same sales, texts and moves, in the same order. It prints the bytes and their FNV-1a checksum, and for
-the display these are what `target/bin/bench time` says of its own day.
+the display these are what `crates/bench/out/bench time` says of its own day.
 """
 
 import sys
