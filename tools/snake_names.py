@@ -3,8 +3,8 @@
 
 usage: python3 tools/snake_names.py [--check]      at the top of the repository
 
-What is declared with a dash in crates/*/specs/ or in a lemma file right in crates/*/proofs/ is turned everywhere in the crates' .antt and .rt files,
-and so is another name that a `ghost use` gives (`byte as byte-event`).
+What is declared with a dash, or with a capital inside, in crates/*/specs/ or in a lemma file right in crates/*/proofs/ is turned everywhere in the crates' .antt and .rt files,
+and so is another name that a `ghost use` gives (`byte as byte-event`, `seen as seenOf`).
 A type (a name that begins with a capital) becomes one word in upper camel case. Anything else is written with underscores, but in a lemma a dash stays
 where it joins a definition's name to one of the library's (`redraw-length`). A name that would fall together with another one is shown and the script stops before it writes.
 Names that Rattle makes (in proofs/F/) are not touched. In .rt files strings stay as they are. A second run writes nothing.
@@ -26,6 +26,11 @@ TOKEN = re.compile(r"[^\s(){}.;,@\"«»\[\]`:&|]+")
 STRING = re.compile(r'b?"(?:\\.|[^"\\])*"|//[^\n]*', re.S)
 
 
+def old(name):
+    """Whether a name is not in today's spelling."""
+    return "-" in name or re.match(r"[a-z][a-z0-9_]*[A-Z]", name) is not None
+
+
 def declared():
     """Each declared name with whether it stands in specs/, and where."""
     found = {}
@@ -43,7 +48,7 @@ def declared():
     for path in sorted(glob.glob("crates/*/src/**/*.rt", recursive=True)):
         with open(path, encoding="utf-8") as f:
             for name in ALIAS.findall("".join(re.findall(r"ghost use [^;]*;", f.read()))):
-                if "-" in name:
+                if old(name):
                     found.setdefault(name, []).append((True, path))
     return found
 
@@ -55,7 +60,7 @@ def camel(name):
 def spelled(name, lemma, words):
     if name[:1].isupper():
         return camel(name)
-    parts = name.split("-")
+    parts = [re.sub(r"(?<=[a-z0-9])[A-Z]", lambda m: "_" + m.group(0), part).lower() for part in name.split("-")]
     out = parts[0]
     for i in range(1, len(parts)):
         left, right = "_".join(parts[:i]), "_".join(parts[i:])
@@ -68,7 +73,7 @@ def table():
     words = {n.replace("-", "_") for n, places in found.items() if any(s for s, _ in places)} | LIBRARY
     rows = {}
     for name, places in found.items():
-        if "-" in name:
+        if old(name):
             rows[name] = spelled(name, not any(s for s, _ in places), words)
     together = {}
     for name in found:

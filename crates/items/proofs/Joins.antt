@@ -5,7 +5,7 @@ use Rattle.std.specs.List.{flat_map}
 use Rattle.std.proofs.lemmas.List.{drop_all, drop-drop}
 use Rattle.reader.specs.declared.words.Reading.TheVariants.{Rest}
 use Rattle.items.specs.declared.parts.Part.{Part}
-use Rattle.items.specs.Extents.{extentOf}
+use Rattle.items.specs.Extents.{extent_of}
 use Rattle.items.specs.declared.parts.Items.{Items}
 use Rattle.items.specs.Hands.{Hands, remaining}
 use Rattle.items.specs.Handed.{PartAt, bytes_of, Walked}
@@ -16,19 +16,19 @@ module _ (bs : List ℕ) (at : ℕ) (p : Part) (next : ℕ) (part : PartAt bs at
   pub nearer : length bs - next < length bs - at
   nearer =
       let long = length-drop at bs in
-      let some : 0 < (extentOf Rest (drop at bs)).size = size_some Rest (drop at bs) (omega (arith, part.before)) in
+      let some : 0 < (extent_of Rest (drop at bs)).size = size_some Rest (drop at bs) (omega (arith, part.before)) in
       omega (arith, part.before, part.next_is)
 
   front : bytes_of p ++ drop next bs ≡ drop at bs
   front =
-      let n = (extentOf Rest (drop at bs)).size in
+      let n = (extent_of Rest (drop at bs)).size in
       ap (λ l. l ++ drop next bs) part.bytes
       ∙ ap (λ l. take n (drop at bs) ++ l) (ap (λ m. drop m bs) part.next_is ∙ sym (drop-drop n at bs))
       ∙ take-append-drop n (drop at bs)
 
   pub long : length (bytes_of p) + at ≡ next
   long =
-      let n = (extentOf Rest (drop at bs)).size in
+      let n = (extent_of Rest (drop at bs)).size in
       let e = ap length part.bytes ∙ length-take-le n (drop at bs) (size_within Rest (drop at bs)) in
       omega (arith, part.next_is)
 

@@ -7,7 +7,7 @@ use Rattle.reader.specs.declared.words.Reading.{Reading}
 use Rattle.reader.specs.declared.words.Reading.TheVariants.{Rest}
 use Rattle.reader.specs.declared.words.Outcome.{Outcome}
 use Rattle.reader.specs.declared.words.Outcome.TheVariants as outcome
-use Rattle.reader.specs.Commands.{isCharacter}
+use Rattle.reader.specs.Commands.{is_character}
 use Rattle.reader.specs.Ends.{ends}
 use Rattle.reader.specs.Runs.{run}
 use Rattle.reader.specs.Steps.{step}
@@ -17,7 +17,7 @@ use Rattle.items.specs.declared.kinds.Kind.TheVariants.{Character, Command, Igno
 use Rattle.items.specs.declared.parts.Extent.{Extent}
 use Rattle.items.specs.declared.parts.Items.{Items}
 use Rattle.items.specs.declared.parts.Part.{Part}
-use Rattle.items.specs.Extents.{ending, extentOf, or_else}
+use Rattle.items.specs.Extents.{ending, extent_of, or_else}
 use Rattle.items.specs.Handed.{bytes_of, PartAt, Walked, Counted, Whole}
 use Rattle.items.specs.Hands.{Hands, WholeWalk}
 use Rattle.items.proofs.Extents.{size_some}
@@ -38,7 +38,7 @@ AnyFinished (Some k) = Finished k
 ending_finished : (o : Outcome) → AnyFinished (ending o)
 ending_finished outcome.Pending = tt
 ending_finished outcome.Ignored = tt
-ending_finished (outcome.Complete c) = cond_both (isCharacter c) Character Command Finished (λ _. tt) (λ _. tt)
+ending_finished (outcome.Complete c) = cond_both (is_character c) Character Command Finished (λ _. tt) (λ _. tt)
 ending_finished (outcome.Partial c) = tt
 ending_finished (outcome.Faulty f) = tt
 
@@ -47,7 +47,7 @@ or_else_last (Some k) e n finished h is = absurd (subst Finished is finished)
 or_else_last None e n finished h is = let same = h is in omega arith
 
 -- an unfinished item reaches to the end
-reaches : (r : Reading) (bs : List ℕ) → (extentOf r bs).kind ≡ Unfinished → (extentOf r bs).size ≡ length bs
+reaches : (r : Reading) (bs : List ℕ) → (extent_of r bs).kind ≡ Unfinished → (extent_of r bs).size ≡ length bs
 reaches r [] is = omega arith
 reaches r (b ∷ bs) is =
     or_else_last (ending (step r b).outcome) _ (length bs) (ending_finished (step r b).outcome) (reaches (step r b).next bs) is
@@ -67,10 +67,10 @@ rests_more (outcome.Partial c) r b bs e here later finished =
 rests_more (outcome.Faulty f) r b bs e here later finished = here refl
 
 -- an item that is finished leaves the reader at rest
-item_rests : (r : Reading) (bs : List ℕ) → ((extentOf r bs).kind ≡ Unfinished → ⊥) → run r (take (extentOf r bs).size bs) ≡ Rest
+item_rests : (r : Reading) (bs : List ℕ) → ((extent_of r bs).kind ≡ Unfinished → ⊥) → run r (take (extent_of r bs).size bs) ≡ Rest
 item_rests r [] finished = absurd (finished refl)
 item_rests r (b ∷ bs) finished =
-    rests_more (step r b).outcome r b bs (extentOf (step r b).next bs) (ended_rests r b) (item_rests (step r b).next bs) finished
+    rests_more (step r b).outcome r b bs (extent_of (step r b).next bs) (ended_rests r b) (item_rests (step r b).next bs) finished
 
 module _ (bs : List ℕ) (at : ℕ) (p : Part) (next : ℕ) (part : PartAt bs at p next) where
   part_last : p.kind ≡ Unfinished → next ≡ length bs

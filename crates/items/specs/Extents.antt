@@ -4,7 +4,7 @@ use Rattle.std.specs.Prelude.{ℕ, ◌+◌, cond, List, [], ◌∷◌, Some, Non
 use Rattle.reader.specs.declared.words.Reading.{Reading}
 use Rattle.reader.specs.declared.words.Outcome.{Outcome}
 use Rattle.reader.specs.declared.words.Outcome.TheVariants.{Pending, Ignored, Complete, Partial, Faulty}
-use Rattle.reader.specs.Commands.{isCharacter}
+use Rattle.reader.specs.Commands.{is_character}
 use Rattle.reader.specs.Steps.{step}
 use Rattle.items.specs.declared.kinds.Kind.{Kind}
 use Rattle.items.specs.declared.kinds.Kind.TheVariants as kind
@@ -14,7 +14,7 @@ use Rattle.items.specs.declared.parts.Extent.{Extent}
 abbrev pub ending : Outcome → Option Kind
 ending Pending = None
 ending Ignored = Some kind.Ignored
-ending (Complete command) = Some (cond (isCharacter command) kind.Character kind.Command)
+ending (Complete command) = Some (cond (is_character command) kind.Character kind.Command)
 ending (Partial command) = None
 ending (Faulty fault) = Some kind.Faulty
 
@@ -27,6 +27,6 @@ or_else (Some k) e = record { size = 1; kind = k }
 or_else None e = longer e
 
 -- the item at the front of the bytes, read on from a reading: up to the first byte that ends it, or unfinished
-abbrev pub extentOf : Reading → List ℕ → Extent
-extentOf r [] = record { size = 0; kind = kind.Unfinished }
-extentOf r (b ∷ bs) = or_else (ending (step r b).outcome) (extentOf (step r b).next bs)
+abbrev pub extent_of : Reading → List ℕ → Extent
+extent_of r [] = record { size = 0; kind = kind.Unfinished }
+extent_of r (b ∷ bs) = or_else (ending (step r b).outcome) (extent_of (step r b).next bs)

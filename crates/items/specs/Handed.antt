@@ -6,7 +6,7 @@ use Rattle.reader.specs.declared.words.Reading.TheVariants.{Rest}
 use Rattle.reader.specs.Runs.{run}
 use Rattle.items.specs.declared.kinds.Kind.TheVariants.{Unfinished}
 use Rattle.items.specs.declared.parts.Part.{Part}
-use Rattle.items.specs.Extents.{extentOf}
+use Rattle.items.specs.Extents.{extent_of}
 
 abbrev pub bytes_of : Part → List ℕ
 bytes_of p = p.bytes.now
@@ -15,9 +15,9 @@ bytes_of p = p.bytes.now
 pub record PartAt (bs : List ℕ) (at : ℕ) (p : Part) (next : ℕ) : Type 0 where
   pub before : at < length bs
   pub place : p.place ≡ at
-  pub kind : p.kind ≡ (extentOf Rest (drop at bs)).kind
-  pub bytes : bytes_of p ≡ take (extentOf Rest (drop at bs)).size (drop at bs)
-  pub next_is : next ≡ at + (extentOf Rest (drop at bs)).size
+  pub kind : p.kind ≡ (extent_of Rest (drop at bs)).kind
+  pub bytes : bytes_of p ≡ take (extent_of Rest (drop at bs)).size (drop at bs)
+  pub next_is : next ≡ at + (extent_of Rest (drop at bs)).size
 
 -- ps are the items of bs from one place to another, one after the other
 abbrev pub Walked : List ℕ → ℕ → List Part → ℕ → Type 0

@@ -1,7 +1,7 @@
 // The walk over a buffer, item by item.
 ghost use Rattle.std.specs.Prelude.{◌≡◌, ◌<◌, ◌≤◌, length, IfOk};
 ghost use Rattle.reader.specs.declared.words.Reading.TheVariants.{Rest};
-ghost use Rattle.items.specs.Extents.{ending, extentOf};
+ghost use Rattle.items.specs.Extents.{ending, extent_of};
 ghost use Rattle.items.specs.Handed.{Walked, Counted, Whole};
 ghost use Rattle.items.specs.Hands.{Hands, WholeWalk, remaining};
 ghost use Rattle.std.specs.Iterator.{at_most};
@@ -28,7 +28,7 @@ fn ended(outcome: Outcome) -> Option<Kind>
 
 // The item at the front of the bytes.
 fn extent(bytes: &[u8]) -> Extent
-    ensures item { result ≡ extentOf Rest bytes.now }
+    ensures item { result ≡ extent_of Rest bytes.now }
     ensures within { result.size ≤ length bytes.now }
     ensures some { 0 < length bytes.now → 0 < result.size }
 {

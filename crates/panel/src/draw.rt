@@ -1,9 +1,9 @@
 // Strokes on any panel.
 ghost use Rattle.std.specs.Prelude.{◌≡◌, ◌<◌, ◌≤◌, true};
-ghost use Rattle.glass.specs.Places.{column as columnOf, line as line_of};
-ghost use Rattle.glass.specs.Drawn.{seen as seenOf, inked as inkedOf, drawn};
+ghost use Rattle.glass.specs.Places.{column as column_of, line as line_of};
+ghost use Rattle.glass.specs.Drawn.{seen as seen_of, inked as inked_of, drawn};
 ghost use Rattle.panel.specs.Laws.{Reached};
-ghost use Rattle.panel.specs.Steps.{touches as touchesOf, rises, falls, Only, stepped, written};
+ghost use Rattle.panel.specs.Steps.{touches as touches_of, rises, falls, Only, stepped, written};
 
 use crate::panel::Panel;
 use glass::area::{Area, place_at};
@@ -15,7 +15,7 @@ const BLANK: u64 = 32;
 
 fn column_of(place: usize) -> u8
     requires { place < 40 }
-    ensures { result ≡ columnOf place }
+    ensures { result ≡ column_of place }
 {
     if place < 20 {
         place as u8 + 1
@@ -32,7 +32,7 @@ fn row_of(place: usize) -> u8
 
 // Whether the ink has a say at a column and a row: elsewhere no cell is put.
 fn touches(ink: Ink, column: u8, row: u8) -> bool
-    ensures { result ≡ touchesOf ink column row }
+    ensures { result ≡ touches_of ink column row }
 {
     match ink {
         Ink::Blank | Ink::ScrollUp | Ink::ScrollDown => true,
@@ -49,7 +49,7 @@ fn touches(ink: Ink, column: u8, row: u8) -> bool
 
 // What is seen through an area: its cells, and blanks outside it.
 fn seen<P: Panel>(panel: &P, area: Area, column: u8, row: u8) -> u64
-    ensures { result ≡ seenOf area (P.cells panel.now) column row }
+    ensures { result ≡ seen_of area (P.cells panel.now) column row }
 {
     if area.holds(column, row) {
         if let Some(place) = place_at(column, row) {
@@ -64,7 +64,7 @@ fn seen<P: Panel>(panel: &P, area: Area, column: u8, row: u8) -> u64
 // What the stroke leaves at a column and a row.
 fn inked<P: Panel>(panel: &P, stroke: Stroke, column: u8, row: u8) -> u64
     requires { (1 ≤ column) × ((column < 255) × ((1 ≤ row) × (row < 255))) }
-    ensures { result ≡ inkedOf stroke.ink (seenOf stroke.area (P.cells panel.now)) column row }
+    ensures { result ≡ inked_of stroke.ink (seen_of stroke.area (P.cells panel.now)) column row }
 {
     let area = stroke.area;
     match stroke.ink {

@@ -9,7 +9,7 @@ use Rattle.reader.specs.declared.classes.Class.TheVariants.{Ignored}
 use Rattle.reader.specs.declared.classes.Page.{Page}
 use Rattle.reader.specs.declared.classes.Page.TheVariants.{Resting, Esc, Us}
 use Rattle.reader.specs.Classes.{class_at, class_of, place_of}
-use Rattle.reader.specs.Agrees.{classBy, TableAgrees}
+use Rattle.reader.specs.Agrees.{class_by, TableAgrees}
 
 pub at_page : (p : Page) (b : ℕ) → b < 256 → class_at (place_of p b) ≡ class_of p b
 at_page Resting b h = cond-true (ltb b 256) _ _ (lt-ltb b 256 h)
@@ -31,6 +31,6 @@ pointwise f g n e k h =
 
 -- antt computes both rules at all 256 bytes of a page
 pub table_agrees : TableAgrees
-table_agrees Resting = pointwise (class_of Resting) (classBy Resting) 256 refl
-table_agrees Esc = pointwise (class_of Esc) (classBy Esc) 256 refl
-table_agrees Us = pointwise (class_of Us) (classBy Us) 256 refl
+table_agrees Resting = pointwise (class_of Resting) (class_by Resting) 256 refl
+table_agrees Esc = pointwise (class_of Esc) (class_by Esc) 256 refl
+table_agrees Us = pointwise (class_of Us) (class_by Us) 256 refl

@@ -9,7 +9,7 @@ use Rattle.reader.specs.declared.words.Reading.{Reading}
 use Rattle.reader.specs.declared.words.Reading.TheVariants.{Rest, AfterEsc, AfterUs, GoToX, GoToY, CursorN, BrightnessN, BlinkN, MarkedN, PlayN, PlayM, SelectN, SetN, TableN, UserN, ForgetN, WindowN, WindowS, WindowX1, WindowY1, WindowX2, WindowY2, DefineOne, DefineFirst, DefineLast, DefineLength, DefineColumn}
 use Rattle.reader.specs.declared.words.Outcome.TheVariants.{Ignored, Partial, Faulty}
 use Rattle.reader.specs.declared.words.Step.{Step}
-use Rattle.reader.specs.Steps.{to, done, wait, fails, listed, restSteps, escSteps, usSteps, windowSteps, within, digit, defined, step}
+use Rattle.reader.specs.Steps.{to, done, wait, fails, listed, rest_steps, esc_steps, us_steps, window_steps, within, digit, defined, step}
 use Rattle.reader.specs.Ends.{ends, EndedRests}
 use Rattle.reader.specs.Cancels.{Fits}
 
@@ -50,10 +50,10 @@ complete code last columns = or (leb last code) _ _ whole (between (code + 1) la
 
 pub stepped : (q : Reading) (b : ℕ) → Stepped q (step q b)
 stepped Rest b =
-    among restSteps _ b (whole, (whole, (whole, (whole, (whole, (whole, (whole, (on tt, (on tt, tt))))))))) (or (leb 0x20 b) _ _ whole ignores)
-stepped AfterEsc b = among escSteps _ b (whole, (on tt, (on tt, (on tt, (on tt, (on tt, (on tt, (on tt, tt)))))))) off
+    among rest_steps _ b (whole, (whole, (whole, (whole, (whole, (whole, (whole, (on tt, (on tt, tt))))))))) (or (leb 0x20 b) _ _ whole ignores)
+stepped AfterEsc b = among esc_steps _ b (whole, (on tt, (on tt, (on tt, (on tt, (on tt, (on tt, (on tt, tt)))))))) off
 stepped AfterUs b =
-    among usSteps _ b
+    among us_steps _ b
     (whole, (whole, (whole, (whole, (whole, (whole, (on tt, (on tt, (on tt, (on tt, (on tt, (on tt, (on tt, (whole, (on tt, tt)))))))))))))))
     off
 stepped GoToX b = or (within 1 20 b) _ _ (on tt) off
@@ -69,7 +69,7 @@ stepped SetN b = or (leb b 12) _ _ whole off
 stepped TableN b = or (leb b 8) _ _ whole off
 stepped UserN b = or (digit 0 b) _ _ whole (or (digit 1 b) _ _ whole off)
 stepped ForgetN b = or (leb 0x20 b) _ _ whole off
-stepped WindowN b = among windowSteps _ b (on tt, (on tt, (on tt, (on tt, (on tt, tt))))) off
+stepped WindowN b = among window_steps _ b (on tt, (on tt, (on tt, (on tt, (on tt, tt))))) off
 stepped (WindowS None) b = or (digit 2 b) _ _ whole off
 stepped (WindowS (Some slot)) b = or (digit 2 b) _ _ whole (or (digit 1 b) _ _ (on tt) (or (digit 0 b) _ _ whole off))
 stepped (WindowX1 slot) b = or (within 1 20 b) _ _ (on tt) off

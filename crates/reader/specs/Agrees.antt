@@ -10,7 +10,7 @@ use Rattle.reader.specs.declared.words.Reading.TheVariants.{Rest, AfterEsc, Afte
 use Rattle.reader.specs.declared.words.Outcome.{Outcome}
 use Rattle.reader.specs.declared.words.Outcome.TheVariants.{Pending, Ignored, Complete, Partial, Faulty}
 use Rattle.reader.specs.Classes.{class_of}
-use Rattle.reader.specs.Commands.{isCharacter}
+use Rattle.reader.specs.Commands.{is_character}
 use Rattle.reader.specs.Steps.{step}
 
 -- the reading that a page is about
@@ -59,14 +59,14 @@ whole Us = class.TwoBytes
 abbrev pub shown : Page → Outcome → Reading → Class
 shown p Pending r = opened r
 shown p Ignored r = class.Ignored
-shown p (Complete c) r = cond (isCharacter c) class.Character (whole p)
+shown p (Complete c) r = cond (is_character c) class.Character (whole p)
 shown p (Partial c) r = opened r
 shown p (Faulty f) r = class.Ignored
 
 -- the class of a byte by what the transition does with it
-abbrev pub classBy : Page → ℕ → Class
-classBy p b = shown p (step (reading_of p) b).outcome (step (reading_of p) b).next
+abbrev pub class_by : Page → ℕ → Class
+class_by p b = shown p (step (reading_of p) b).outcome (step (reading_of p) b).next
 
 -- on every page the class of every byte is the one that the transition speaks for
 abbrev pub TableAgrees : Type 0
-TableAgrees = (p : Page) (b : ℕ) → b < 256 → class_of p b ≡ classBy p b
+TableAgrees = (p : Page) (b : ℕ) → b < 256 → class_of p b ≡ class_by p b

@@ -5,33 +5,33 @@ use Rattle.reader.specs.declared.words.Command.{Command}
 use Rattle.reader.specs.declared.words.Command.TheVariants.{Character, Left, Right, Down, Up, Home, Clear, RowStart, RowEnd, Corner, ClearRow, SetMode, GoTo, Cursor, Brightness, Blink, Marked, Record, Play, Initialize, Select, DefineWindow, CancelWindow, TurnToWindow, UseSet, UseTable, UserCharacters, Forget, Define}
 
 -- a plain character, of one byte; a character with a mark is a command of three
-abbrev pub isCharacter : Command → Bool
-isCharacter (Character code) = true
-isCharacter Left = false
-isCharacter Right = false
-isCharacter Down = false
-isCharacter Up = false
-isCharacter Home = false
-isCharacter Clear = false
-isCharacter RowStart = false
-isCharacter RowEnd = false
-isCharacter Corner = false
-isCharacter ClearRow = false
-isCharacter (SetMode mode) = false
-isCharacter (GoTo x y) = false
-isCharacter (Cursor shown) = false
-isCharacter (Brightness level) = false
-isCharacter (Blink period) = false
-isCharacter (Marked mark code) = false
-isCharacter Record = false
-isCharacter (Play wait gap) = false
-isCharacter Initialize = false
-isCharacter (Select on) = false
-isCharacter (DefineWindow slot x1 y1 x2 y2) = false
-isCharacter (CancelWindow slot) = false
-isCharacter (TurnToWindow window) = false
-isCharacter (UseSet n) = false
-isCharacter (UseTable n) = false
-isCharacter (UserCharacters on) = false
-isCharacter (Forget code) = false
-isCharacter (Define code columns) = false
+abbrev pub is_character : Command → Bool
+is_character (Character code) = true
+is_character Left = false
+is_character Right = false
+is_character Down = false
+is_character Up = false
+is_character Home = false
+is_character Clear = false
+is_character RowStart = false
+is_character RowEnd = false
+is_character Corner = false
+is_character ClearRow = false
+is_character (SetMode mode) = false
+is_character (GoTo x y) = false
+is_character (Cursor shown) = false
+is_character (Brightness level) = false
+is_character (Blink period) = false
+is_character (Marked mark code) = false
+is_character Record = false
+is_character (Play wait gap) = false
+is_character Initialize = false
+is_character (Select on) = false
+is_character (DefineWindow slot x1 y1 x2 y2) = false
+is_character (CancelWindow slot) = false
+is_character (TurnToWindow window) = false
+is_character (UseSet n) = false
+is_character (UseTable n) = false
+is_character (UserCharacters on) = false
+is_character (Forget code) = false
+is_character (Define code columns) = false

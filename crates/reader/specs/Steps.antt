@@ -37,34 +37,34 @@ listed [] d b = d
 listed (e ∷ es) d b = cond (b == e.0) e.1 (listed es d b)
 
 -- at rest: the one-byte commands and the two bytes that open a command
-abbrev pub restSteps : List (ℕ × Step)
-restSteps =
+abbrev pub rest_steps : List (ℕ × Step)
+rest_steps =
     (0x08, done Left) ∷ (0x09, done Right) ∷ (0x0A, done Down) ∷ (0x0B, done Home) ∷ (0x0C, done Clear) ∷
     (0x0D, done RowStart) ∷ (0x18, done ClearRow) ∷ (0x1B, wait AfterEsc) ∷ (0x1F, wait AfterUs) ∷ []
 
 -- the second bytes after ESC (1Bh)
-abbrev pub escSteps : List (ℕ × Step)
-escSteps =
+abbrev pub esc_steps : List (ℕ × Step)
+esc_steps =
     (0x40, done Initialize) ∷ (0x3D, wait SelectN) ∷ (0x57, wait WindowN) ∷ (0x52, wait SetN) ∷ (0x74, wait TableN) ∷
     (0x25, wait UserN) ∷ (0x3F, wait ForgetN) ∷ (0x26, wait DefineOne) ∷ []
 
 -- the second bytes after US (1Fh)
-abbrev pub usSteps : List (ℕ × Step)
-usSteps =
+abbrev pub us_steps : List (ℕ × Step)
+us_steps =
     (0x01, done (SetMode Overwrite)) ∷ (0x02, done (SetMode Vertical)) ∷ (0x03, done (SetMode Horizontal)) ∷
     (0x0A, done Up) ∷ (0x0D, done RowEnd) ∷ (0x42, done Corner) ∷ (0x24, wait GoToX) ∷ (0x43, wait CursorN) ∷
     (0x58, wait BrightnessN) ∷ (0x45, wait BlinkN) ∷ (0x2E, wait (MarkedN Point)) ∷ (0x2C, wait (MarkedN Comma)) ∷
     (0x3B, wait (MarkedN Semicolon)) ∷ (0x3A, done Record) ∷ (0x5E, wait PlayN) ∷ []
 
 -- at rest a byte that is not listed is a character from 20h on, and below that is ignored
-abbrev pub atRest : ℕ → Step
-atRest b = listed restSteps (cond (nat_le 0x20 b) (done (Character b)) (to Rest Ignored)) b
+abbrev pub at_rest : ℕ → Step
+at_rest b = listed rest_steps (cond (nat_le 0x20 b) (done (Character b)) (to Rest Ignored)) b
 
-abbrev pub afterEsc : ℕ → Step
-afterEsc b = listed escSteps (fails (Unknown 0x1B b)) b
+abbrev pub after_esc : ℕ → Step
+after_esc b = listed esc_steps (fails (Unknown 0x1B b)) b
 
-abbrev pub afterUs : ℕ → Step
-afterUs b = listed usSteps (fails (Unknown 0x1F b)) b
+abbrev pub after_us : ℕ → Step
+after_us b = listed us_steps (fails (Unknown 0x1F b)) b
 
 abbrev pub within : ℕ → ℕ → ℕ → Bool
 within lo hi b = nat_le lo b && nat_le b hi
@@ -74,25 +74,25 @@ abbrev pub digit : ℕ → ℕ → Bool
 digit n b = b == n || b == 0x30 + n
 
 -- operand k of a command is out of its range
-abbrev pub offEsc : ℕ → ℕ → Step
-offEsc second k = fails (OutOfRange 0x1B second k)
+abbrev pub off_esc : ℕ → ℕ → Step
+off_esc second k = fails (OutOfRange 0x1B second k)
 
-abbrev pub offUs : ℕ → ℕ → Step
-offUs second k = fails (OutOfRange 0x1F second k)
+abbrev pub off_us : ℕ → ℕ → Step
+off_us second k = fails (OutOfRange 0x1F second k)
 
 -- which window: 0 is the whole glass, 1 to 4 can be defined
-abbrev pub windowSteps : List (ℕ × Step)
-windowSteps =
+abbrev pub window_steps : List (ℕ × Step)
+window_steps =
     (0, wait (WindowS None)) ∷ (1, wait (WindowS (Some First))) ∷ (2, wait (WindowS (Some Second))) ∷
     (3, wait (WindowS (Some Third))) ∷ (4, wait (WindowS (Some Fourth))) ∷ []
 
 -- what to do with it: the whole glass can only be turned to
-abbrev pub windowS : Option Slot → ℕ → Step
-windowS None b = cond (digit 2 b) (done (TurnToWindow None)) (offEsc 0x57 2)
-windowS (Some n) b =
+abbrev pub window_s : Option Slot → ℕ → Step
+window_s None b = cond (digit 2 b) (done (TurnToWindow None)) (off_esc 0x57 2)
+window_s (Some n) b =
     cond (digit 2 b) (done (TurnToWindow (Some n)))
     (cond (digit 1 b) (wait (WindowX1 n))
-    (cond (digit 0 b) (done (CancelWindow n)) (offEsc 0x57 2)))
+    (cond (digit 0 b) (done (CancelWindow n)) (off_esc 0x57 2)))
 
 -- a user character is complete: it is the last, or the length of the next one follows
 abbrev pub defined : ℕ → ℕ → List ℕ → Step
@@ -102,39 +102,39 @@ defined code last columns =
 abbrev pub blanks : List ℕ
 blanks = 0 ∷ 0 ∷ 0 ∷ 0 ∷ 0 ∷ []
 
-abbrev pub defineLength : ℕ → ℕ → ℕ → Step
-defineLength code last b =
-    cond (b == 0) (defined code last blanks) (cond (nat_le b 5) (wait (DefineColumn code last b 0 blanks)) (offEsc 0x26 4))
+abbrev pub define_length : ℕ → ℕ → ℕ → Step
+define_length code last b =
+    cond (b == 0) (defined code last blanks) (cond (nat_le b 5) (wait (DefineColumn code last b 0 blanks)) (off_esc 0x26 4))
 
-abbrev pub defineColumn : ℕ → ℕ → ℕ → ℕ → List ℕ → ℕ → Step
-defineColumn code last size at columns b =
+abbrev pub define_column : ℕ → ℕ → ℕ → ℕ → List ℕ → ℕ → Step
+define_column code last size at columns b =
     cond (nat_le size (at + 1)) (defined code last (slice_set columns at b)) (wait (DefineColumn code last size (at + 1) (slice_set columns at b)))
 
 abbrev pub step : Reading → ℕ → Step
-step Rest b = atRest b
-step AfterEsc b = afterEsc b
-step AfterUs b = afterUs b
-step GoToX b = cond (within 1 20 b) (wait (GoToY b)) (offUs 0x24 1)
-step (GoToY x) b = cond (within 1 2 b) (done (GoTo x b)) (offUs 0x24 2)
-step CursorN b = cond (digit 0 b) (done (Cursor false)) (cond (digit 1 b) (done (Cursor true)) (offUs 0x43 1))
-step BrightnessN b = cond (within 1 4 b) (done (Brightness b)) (offUs 0x58 1)
+step Rest b = at_rest b
+step AfterEsc b = after_esc b
+step AfterUs b = after_us b
+step GoToX b = cond (within 1 20 b) (wait (GoToY b)) (off_us 0x24 1)
+step (GoToY x) b = cond (within 1 2 b) (done (GoTo x b)) (off_us 0x24 2)
+step CursorN b = cond (digit 0 b) (done (Cursor false)) (cond (digit 1 b) (done (Cursor true)) (off_us 0x43 1))
+step BrightnessN b = cond (within 1 4 b) (done (Brightness b)) (off_us 0x58 1)
 step BlinkN b = done (Blink b)
-step (MarkedN m) b = cond (nat_le 0x20 b) (done (Marked m b)) (offUs (mark_byte m) 1)
-step PlayN b = cond (b == 0) (offUs 0x5E 1) (wait (PlayM b))
+step (MarkedN m) b = cond (nat_le 0x20 b) (done (Marked m b)) (off_us (mark_byte m) 1)
+step PlayN b = cond (b == 0) (off_us 0x5E 1) (wait (PlayM b))
 step (PlayM n) b = done (Play n b)
-step SelectN b = cond (digit 1 b) (done (Select false)) (cond (digit 2 b || digit 3 b) (done (Select true)) (offEsc 0x3D 1))
-step SetN b = cond (nat_le b 12) (done (UseSet b)) (offEsc 0x52 1)
-step TableN b = cond (nat_le b 8) (done (UseTable b)) (offEsc 0x74 1)
-step UserN b = cond (digit 0 b) (done (UserCharacters false)) (cond (digit 1 b) (done (UserCharacters true)) (offEsc 0x25 1))
-step ForgetN b = cond (nat_le 0x20 b) (done (Forget b)) (offEsc 0x3F 1)
-step WindowN b = listed windowSteps (offEsc 0x57 1) b
-step (WindowS n) b = windowS n b
-step (WindowX1 n) b = cond (within 1 20 b) (wait (WindowY1 n b)) (offEsc 0x57 3)
-step (WindowY1 n x1) b = cond (within 1 2 b) (wait (WindowX2 n x1 b)) (offEsc 0x57 4)
-step (WindowX2 n x1 y1) b = cond (within x1 20 b) (wait (WindowY2 n x1 y1 b)) (offEsc 0x57 5)
-step (WindowY2 n x1 y1 x2) b = cond (within y1 2 b) (done (DefineWindow n x1 y1 x2 b)) (offEsc 0x57 6)
-step DefineOne b = cond (b == 1) (wait DefineFirst) (offEsc 0x26 1)
-step DefineFirst b = cond (nat_le 0x20 b) (wait (DefineLast b)) (offEsc 0x26 2)
-step (DefineLast s) b = cond (nat_le s b) (wait (DefineLength s b)) (offEsc 0x26 3)
-step (DefineLength code last) b = defineLength code last b
-step (DefineColumn code last size at columns) b = defineColumn code last size at columns b
+step SelectN b = cond (digit 1 b) (done (Select false)) (cond (digit 2 b || digit 3 b) (done (Select true)) (off_esc 0x3D 1))
+step SetN b = cond (nat_le b 12) (done (UseSet b)) (off_esc 0x52 1)
+step TableN b = cond (nat_le b 8) (done (UseTable b)) (off_esc 0x74 1)
+step UserN b = cond (digit 0 b) (done (UserCharacters false)) (cond (digit 1 b) (done (UserCharacters true)) (off_esc 0x25 1))
+step ForgetN b = cond (nat_le 0x20 b) (done (Forget b)) (off_esc 0x3F 1)
+step WindowN b = listed window_steps (off_esc 0x57 1) b
+step (WindowS n) b = window_s n b
+step (WindowX1 n) b = cond (within 1 20 b) (wait (WindowY1 n b)) (off_esc 0x57 3)
+step (WindowY1 n x1) b = cond (within 1 2 b) (wait (WindowX2 n x1 b)) (off_esc 0x57 4)
+step (WindowX2 n x1 y1) b = cond (within x1 20 b) (wait (WindowY2 n x1 y1 b)) (off_esc 0x57 5)
+step (WindowY2 n x1 y1 x2) b = cond (within y1 2 b) (done (DefineWindow n x1 y1 x2 b)) (off_esc 0x57 6)
+step DefineOne b = cond (b == 1) (wait DefineFirst) (off_esc 0x26 1)
+step DefineFirst b = cond (nat_le 0x20 b) (wait (DefineLast b)) (off_esc 0x26 2)
+step (DefineLast s) b = cond (nat_le s b) (wait (DefineLength s b)) (off_esc 0x26 3)
+step (DefineLength code last) b = define_length code last b
+step (DefineColumn code last size at columns) b = define_column code last size at columns b

@@ -2,7 +2,7 @@
 ghost use Rattle.std.specs.Prelude.{◌≡◌, ◌<◌};
 ghost use Rattle.reader.specs.Numbers.{class_number};
 ghost use Rattle.reader.specs.Classes.{class_at, class_of, place_of};
-ghost use Rattle.reader.specs.Agrees.{classBy, TableAgrees};
+ghost use Rattle.reader.specs.Agrees.{class_by, TableAgrees};
 
 #[derive(Clone, Copy)]
 pub enum Class {
@@ -177,7 +177,7 @@ fn place_of(page: Page, byte: u8) -> usize
 // The class of a byte: by the list of commands, and so by what the transition does with it.
 pub fn class_of(page: Page, byte: u8) -> Class
     ensures listed { result ≡ class_of page byte }
-    ensures taken { result ≡ classBy page byte }
+    ensures taken { result ≡ class_by page byte }
 {
     class_at(place_of(page, byte))
 }

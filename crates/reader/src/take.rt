@@ -1,6 +1,6 @@
 // What one byte does to a reading: the transition of the reader.
 ghost use Rattle.std.specs.Prelude.{◌≡◌};
-ghost use Rattle.reader.specs.Steps.{atRest, afterEsc, afterUs, step};
+ghost use Rattle.reader.specs.Steps.{at_rest, after_esc, after_us, step};
 ghost use Rattle.reader.specs.Cancels.{six, SixCancels};
 
 use crate::words::{Command, ESC, Mark, Mode, Outcome, ReadFault, Reading, Step, US};
@@ -10,7 +10,7 @@ use crate::{define, operands};
 const CANCEL: u8 = 0x18;
 
 fn at_rest(byte: u8) -> Step
-    ensures { result ≡ atRest byte }
+    ensures { result ≡ at_rest byte }
 {
     match byte {
         0x20..=0xFF => Step::complete(Command::Character { code: byte }),
@@ -31,7 +31,7 @@ fn at_rest(byte: u8) -> Step
 }
 
 fn after_esc(byte: u8) -> Step
-    ensures { result ≡ afterEsc byte }
+    ensures { result ≡ after_esc byte }
 {
     match byte {
         b'@' => Step::complete(Command::Initialize),
@@ -50,7 +50,7 @@ fn after_esc(byte: u8) -> Step
 }
 
 fn after_us(byte: u8) -> Step
-    ensures { result ≡ afterUs byte }
+    ensures { result ≡ after_us byte }
 {
     match byte {
         0x01 => Step::complete(Command::SetMode {

@@ -1,7 +1,7 @@
 // The words of the reader: commands, faults, readings and outcomes.
 ghost use Rattle.std.specs.Prelude.{◌≡◌};
 ghost use Rattle.reader.specs.Numbers.{mark_number, mark_byte, mode_number, slot_number, fault_cause, fault_first, fault_second, fault_operand};
-ghost use Rattle.reader.specs.Steps.{done, wait, fails, offEsc, offUs};
+ghost use Rattle.reader.specs.Steps.{done, wait, fails, off_esc, off_us};
 
 pub(crate) const ESC: u8 = 0x1B;
 
@@ -234,7 +234,7 @@ impl Step {
 
     // An operand of the command ESC `second` is out of its range.
     pub(crate) fn off_esc(second: u8, operand: u8) -> Step
-        ensures { result ≡ offEsc second operand }
+        ensures { result ≡ off_esc second operand }
     {
         Step::faulty(ReadFault::OutOfRange {
             first: ESC,
@@ -245,7 +245,7 @@ impl Step {
 
     // An operand of the command US `second` is out of its range.
     pub(crate) fn off_us(second: u8, operand: u8) -> Step
-        ensures { result ≡ offUs second operand }
+        ensures { result ≡ off_us second operand }
     {
         Step::faulty(ReadFault::OutOfRange {
             first: US,

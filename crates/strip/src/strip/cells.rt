@@ -1,7 +1,7 @@
 // The cells of a strip panel: looked at, put and painted.
 ghost use Rattle.std.specs.Prelude.{◌≡◌, if◌then◌else◌, Ok, Err, nat_lt, slice_index};
 ghost use Rattle.strip.specs.Strip.{waiting_of, cells_of, Merged, Roomed, Added, Puts, Paints};
-ghost use Rattle.strip.specs.Latest.{latest as latestOf, Latest};
+ghost use Rattle.strip.specs.Latest.{latest as latest_of, Latest};
 ghost use Rattle.strip.specs.Laws.{strip_laws};
 
 use crate::strip::{Change, StripPanel};
@@ -12,7 +12,7 @@ const PLACES: usize = 40;
 impl StripPanel<'_> {
     // The cell of the latest change for a place.
     fn latest(&self, place: usize) -> Option<u64>
-        ensures { result ≡ latestOf place (waiting_of self.now) }
+        ensures { result ≡ latest_of place (waiting_of self.now) }
     {
         let count = self.changes.count();
         for n in (0..count).rev() {

@@ -1,14 +1,14 @@
 use Rattle.std.proofs.Common.{◌≡◌, ℕ, ◌<◌, ◌≤◌, List, length, sym, ap, ◌∙◌, arith}
 use Rattle.reader.specs.declared.words.Reading.TheVariants.{Rest}
 use Rattle.items.specs.declared.parts.Extent.{Extent}
-use Rattle.items.specs.Extents.{extentOf}
+use Rattle.items.specs.Extents.{extent_of}
 use Rattle.items.proofs.Extents.{start, more, done, unfinished, size_within, size_some}
 use Rattle.items.proofs.walk.extent.Goals as goal
 
-within : (bs : List ℕ) (e : Extent) → e ≡ extentOf Rest bs → e.size ≤ length bs
+within : (bs : List ℕ) (e : Extent) → e ≡ extent_of Rest bs → e.size ≤ length bs
 within bs e is = let n = ap (λ (x : Extent). x.size) is in omega (arith, size_within Rest bs)
 
-some : (bs : List ℕ) (e : Extent) → e ≡ extentOf Rest bs → 0 < length bs → 0 < e.size
+some : (bs : List ℕ) (e : Extent) → e ≡ extent_of Rest bs → 0 < length bs → 0 < e.size
 some bs e is h = let n = ap (λ (x : Extent). x.size) is in omega (arith, size_some Rest bs h)
 
 pub loop-i-init : goal.loop-i-init
