@@ -28,7 +28,7 @@ STRING = re.compile(r'b?"(?:\\.|[^"\\])*"|//[^\n]*', re.S)
 
 def old(name):
     """Whether a name is not in today's spelling."""
-    return "-" in name or re.match(r"[a-z][a-z0-9_]*[A-Z]", name) is not None
+    return "-" in name or re.match(r"[a-z][a-z0-9_]*[A-Z]|[A-Z]\w*_", name) is not None
 
 
 def declared():
@@ -54,7 +54,7 @@ def declared():
 
 
 def camel(name):
-    return "".join(part[:1].upper() + part[1:] for part in name.split("-"))
+    return "".join(part[:1].upper() + part[1:] for part in re.split("[-_]", name))
 
 
 def spelled(name, lemma, words):

@@ -90,9 +90,9 @@ pub record Types (b : ℕ) (c : Core) : Type 0 where
   pub inside : inside (window c) c.layout.column c.layout.row ≡ true
 
 -- whether a byte was read with which a command only goes on; else nothing was read
-abbrev pub Goes_on : Reading → ℕ → Bool → Reading → Type 0
-Goes_on q b true r = step q b ≡ wait r
-Goes_on q b false r = r ≡ q
+abbrev pub GoesOn : Reading → ℕ → Bool → Reading → Type 0
+GoesOn q b true r = step q b ≡ wait r
+GoesOn q b false r = r ≡ q
 
 -- the byte was taken, and draws nothing; or nothing happened yet
 abbrev pub Passes : ℕ → Core → Bool → Core → Type 0

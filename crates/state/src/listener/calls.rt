@@ -4,7 +4,7 @@ ghost use Rattle.reader.specs.Steps.{step};
 ghost use Rattle.reader.specs.declared.words.Reading.TheVariants.{Rest};
 ghost use Rattle.state.specs.declared.listener.Voice.TheVariants.{Host, Macro};
 ghost use Rattle.state.specs.Heard.{heard_as};
-ghost use Rattle.state.specs.Shorts.{Goes_on, awaited, mark_in};
+ghost use Rattle.state.specs.Shorts.{GoesOn, awaited, mark_in};
 
 use crate::listener::{Item, Listener, Speaker, Voice};
 use reader::words::{Mark, Outcome, ReadFault, Reading, Step};
@@ -90,7 +90,7 @@ impl Listener {
 
     // Reads a byte of the host with which a frequent command only goes on; any other is not read.
     pub(crate) fn goes_on(&mut self, byte: u8) -> bool
-        ensures { Goes_on self.old.reading byte result self.new.reading }
+        ensures { GoesOn self.old.reading byte result self.new.reading }
     {
         let next = match (self.reading, byte) {
             (Reading::Rest, 0x1B) => Reading::AfterEsc,
