@@ -2,8 +2,28 @@
 ghost use Rattle.std.specs.Prelude.{◌≡◌};
 ghost use Rattle.glass.specs.Places.{holds, lawful, apart, place_at};
 
+// A column and a row of the glass, or beside it.
+#[derive(Clone, Copy, Debug, PartialEq, Eq)]
+pub struct Position {
+    pub column: u8,
+    pub row: u8,
+}
+
+impl Position {
+    // The place of a position, if it is on the glass.
+    pub fn place(self) -> Option<usize>
+        ensures { result ≡ place_at self.column self.row }
+    {
+        if WHOLE.holds(self) {
+            Some(20 * (self.row as usize - 1) + (self.column as usize - 1))
+        } else {
+            None
+        }
+    }
+}
+
 // Columns x1 to x2 and rows y1 to y2. Any four numbers make one: what lies off the glass holds no place.
-#[derive(Clone, Copy)]
+#[derive(Clone, Copy, Debug, PartialEq, Eq)]
 pub struct Area {
     pub x1: u8,
     pub y1: u8,
@@ -19,10 +39,10 @@ pub const WHOLE: Area = Area {
 };
 
 impl Area {
-    pub fn holds(self, column: u8, row: u8) -> bool
-        ensures { result ≡ holds self column row }
+    pub fn holds(self, at: Position) -> bool
+        ensures { result ≡ holds self at.column at.row }
     {
-        self.x1 <= column && column <= self.x2 && self.y1 <= row && row <= self.y2
+        (self.x1..=self.x2).contains(&at.column) && (self.y1..=self.y2).contains(&at.row)
     }
 
     // Whether it lies on the glass and has a place.
@@ -42,16 +62,5 @@ impl Area {
         ensures { result ≡ apart self other }
     {
         self.x2 < other.x1 || other.x2 < self.x1 || self.y2 < other.y1 || other.y2 < self.y1
-    }
-}
-
-// The place of a column and a row, if they are on the glass.
-pub fn place_at(column: u8, row: u8) -> Option<usize>
-    ensures { result ≡ place_at column row }
-{
-    if WHOLE.holds(column, row) {
-        Some(20 * (row as usize - 1) + (column as usize - 1))
-    } else {
-        None
     }
 }

@@ -2,7 +2,7 @@
 use crate::area::Area;
 
 // What a stroke does inside its area. A blank comes in where a cell would come from outside the area.
-#[derive(Clone, Copy)]
+#[derive(Clone, Copy, Debug, PartialEq, Eq)]
 pub enum Ink {
     Blank,
     BlankRow { row: u8 },
@@ -14,7 +14,7 @@ pub enum Ink {
 }
 
 // One change of the glass: inside the area only, and by what is seen inside the area only.
-#[derive(Clone, Copy)]
+#[derive(Clone, Copy, Debug, PartialEq, Eq)]
 pub struct Stroke {
     pub area: Area,
     pub ink: Ink,

@@ -2,20 +2,19 @@
 ghost use Rattle.std.specs.Prelude.{◌≡◌, ◌-◌, ◌≤◌, [], ◌∷◌, ◌++◌, length, is_ok, if◌then◌else◌, Ok, Err, ◌==◌, nat_lt, slice_set};
 ghost use Rattle.list.specs.Entries.{entries, places, capacity};
 ghost use Rattle.list.specs.Numbers.{list_refusal};
-ghost use Rattle.std.specs.List.{slice_get as nth_of};
+ghost use Rattle.std.specs.List.{slice_get};
 
-#[derive(Clone, Copy)]
+#[derive(Clone, Copy, Debug, PartialEq, Eq)]
 pub enum ListRefusal {
-    Full,
+    Full = 42,
 }
 
-impl ListRefusal {
-    pub fn number(self) -> u8
-        ensures { result ≡ list_refusal self }
-    {
-        match self {
-            ListRefusal::Full => 42,
-        }
+// The number by which it is told.
+impl From<ListRefusal> for u8 {
+    ghost from_gives = { λ refusal number. number ≡ list_refusal refusal };
+
+    fn from(refusal: ListRefusal) -> u8 {
+        refusal as u8
     }
 }
 
@@ -36,8 +35,8 @@ impl<'a, T: Copy> BoundedList<'a, T> {
         BoundedList { slots, len: 0 }
     }
 
-    // The places in use.
-    fn used(&self) -> &[T]
+    // The entries in order, which are the places in use.
+    pub fn as_slice(&self) -> &[T]
         ensures value { result.now ≡ entries self.now }
         ensures within { length result.now ≤ capacity self.now }
     {
@@ -48,7 +47,7 @@ impl<'a, T: Copy> BoundedList<'a, T> {
         ensures value { result ≡ length (entries self.now) }
         ensures within { result ≤ capacity self.now }
     {
-        self.used().len()
+        self.as_slice().len()
     }
 
     pub fn is_empty(&self) -> bool
@@ -93,18 +92,8 @@ impl<'a, T: Copy> BoundedList<'a, T> {
 
     // The entry number n, counted from 0.
     pub fn nth(&self, n: usize) -> Option<T>
-        ensures { result ≡ nth_of (entries self.now) n }
+        ensures { result ≡ slice_get (entries self.now) n }
     {
-        item(self.used(), n)
-    }
-}
-
-fn item<T: Copy>(items: &[T], n: usize) -> Option<T>
-    ensures { result ≡ nth_of items.now n }
-{
-    if n < items.len() {
-        Some(items[n])
-    } else {
-        None
+        self.as_slice().get(n).copied()
     }
 }

@@ -1,58 +1,52 @@
 // Strokes on any panel.
 ghost use Rattle.std.specs.Prelude.{◌≡◌, ◌<◌, ◌≤◌, true};
-ghost use Rattle.glass.specs.Places.{column as column_of, line as line_of};
-ghost use Rattle.glass.specs.Drawn.{seen as seen_of, inked as inked_of, drawn};
-ghost use Rattle.panel.specs.Laws.{Reached};
-ghost use Rattle.panel.specs.Steps.{touches as touches_of, rises, falls, Only, stepped, written};
+ghost use Rattle.glass.specs.Places.{column, line};
+ghost use Rattle.glass.specs.Drawn.{seen, inked, drawn};
+ghost use Rattle.panel.specs.Laws.{Drew};
+ghost use Rattle.panel.specs.Steps.{touches, rises, falls, Only, stepped, written};
 
 use crate::panel::Panel;
-use glass::area::{Area, place_at};
+use glass::area::{Area, Position};
 use glass::stroke::{Ink, Stroke};
 
 const PLACES: usize = 40;
 
 const BLANK: u64 = 32;
 
-fn column_of(place: usize) -> u8
+fn position(place: usize) -> Position
     requires { place < 40 }
-    ensures { result ≡ column_of place }
+    ensures { result ≡ record { column = column place; row = line place } }
 {
     if place < 20 {
-        place as u8 + 1
+        Position {
+            column: place as u8 + 1,
+            row: 1,
+        }
     } else {
-        place as u8 - 19
+        Position {
+            column: place as u8 - 19,
+            row: 2,
+        }
     }
 }
 
-fn row_of(place: usize) -> u8
-    ensures { result ≡ line_of place }
-{
-    if place < 20 { 1 } else { 2 }
-}
-
-// Whether the ink has a say at a column and a row: elsewhere no cell is put.
-fn touches(ink: Ink, column: u8, row: u8) -> bool
-    ensures { result ≡ touches_of ink column row }
+// Whether the ink has a say at a position: elsewhere no cell is put.
+fn touches(ink: Ink, at: Position) -> bool
+    ensures { result ≡ touches ink at.column at.row }
 {
     match ink {
         Ink::Blank | Ink::ScrollUp | Ink::ScrollDown => true,
-        Ink::BlankRow { row: only }
-        | Ink::ShiftLeft { row: only }
-        | Ink::ShiftRight { row: only } => row == only,
-        Ink::Write {
-            column: x,
-            row: y,
-            ..
-        } => column == x && row == y,
+        Ink::BlankRow { row } | Ink::ShiftLeft { row } | Ink::ShiftRight { row } => at.row == row,
+        Ink::Write { column, row, .. } => at == Position { column, row },
     }
 }
 
 // What is seen through an area: its cells, and blanks outside it.
-fn seen<P: Panel>(panel: &P, area: Area, column: u8, row: u8) -> u64
-    ensures { result ≡ seen_of area (P.cells panel.now) column row }
+fn seen<P: Panel>(panel: &P, area: Area, at: Position) -> u64
+    ensures { result ≡ seen area (P.make.cells panel.now) at.column at.row }
 {
-    if area.holds(column, row) {
-        if let Some(place) = place_at(column, row) {
+    if area.holds(at) {
+        if let Some(place) = at.place() {
             if let Ok(cell) = panel.look(place) {
                 return cell;
             }
@@ -61,38 +55,49 @@ fn seen<P: Panel>(panel: &P, area: Area, column: u8, row: u8) -> u64
     BLANK
 }
 
-// What the stroke leaves at a column and a row.
-fn inked<P: Panel>(panel: &P, stroke: Stroke, column: u8, row: u8) -> u64
-    requires { (1 ≤ column) × ((column < 255) × ((1 ≤ row) × (row < 255))) }
-    ensures { result ≡ inked_of stroke.ink (seen_of stroke.area (P.cells panel.now)) column row }
+// What the stroke leaves at a position.
+fn inked<P: Panel>(panel: &P, stroke: Stroke, at: Position) -> u64
+    requires { (1 ≤ at.column) × ((at.column < 255) × ((1 ≤ at.row) × (at.row < 255))) }
+    ensures { result ≡ inked stroke.ink (seen stroke.area (P.make.cells panel.now)) at.column at.row }
 {
-    let area = stroke.area;
-    match stroke.ink {
-        Ink::Blank => BLANK,
-        Ink::BlankRow { row: only } if row == only => BLANK,
+    let Position { column, row } = at;
+    let from = match stroke.ink {
+        Ink::Blank => return BLANK,
+        Ink::BlankRow { row: only } if row == only => return BLANK,
         Ink::Write {
             column: x,
             row: y,
             cell,
-        } if column == x && row == y => cell,
-        Ink::ShiftLeft { row: only } if row == only => seen(panel, area, column + 1, row),
-        Ink::ShiftRight { row: only } if row == only => seen(panel, area, column - 1, row),
-        Ink::ScrollUp => seen(panel, area, column, row + 1),
-        Ink::ScrollDown => seen(panel, area, column, row - 1),
-        _ => seen(panel, area, column, row),
-    }
+        } if column == x && row == y => return cell,
+        Ink::ShiftLeft { row: only } if row == only => Position {
+            column: column + 1,
+            row,
+        },
+        Ink::ShiftRight { row: only } if row == only => Position {
+            column: column - 1,
+            row,
+        },
+        Ink::ScrollUp => Position {
+            column,
+            row: row + 1,
+        },
+        Ink::ScrollDown => Position {
+            column,
+            row: row - 1,
+        },
+        _ => at,
+    };
+    seen(panel, stroke.area, from)
 }
 
 // Draws the stroke at one place.
 fn step<P: Panel>(panel: &mut P, stroke: Stroke, place: usize)
     requires { place < 40 }
-    ensures cells { P.cells panel.new ≡ stepped stroke place (P.cells panel.old) }
-    ensures reached { Reached P.puts panel.old panel.new }
+    ensures { Drew P.make panel.old (stepped stroke place (P.make.cells panel.old)) panel.new }
 {
-    let column = column_of(place);
-    let row = row_of(place);
-    if stroke.area.holds(column, row) && touches(stroke.ink, column, row) {
-        let cell = inked(panel, stroke, column, row);
+    let at = position(place);
+    if stroke.area.holds(at) && touches(stroke.ink, at) {
+        let cell = inked(panel, stroke, at);
         // Never refused: the place is on the glass.
         let _ = panel.put(place, cell);
     }
@@ -101,8 +106,7 @@ fn step<P: Panel>(panel: &mut P, stroke: Stroke, place: usize)
 // Draws the places in rising order.
 fn draw_up<P: Panel>(panel: &mut P, stroke: Stroke)
     requires { rises stroke.ink ≡ true }
-    ensures cells { P.cells panel.new ≡ drawn stroke (P.cells panel.old) }
-    ensures reached { Reached P.puts panel.old panel.new }
+    ensures { Drew P.make panel.old (drawn stroke (P.make.cells panel.old)) panel.new }
 {
     for place in 0..PLACES {
         step(panel, stroke, place);
@@ -112,8 +116,7 @@ fn draw_up<P: Panel>(panel: &mut P, stroke: Stroke)
 // Draws the places in falling order.
 fn draw_down<P: Panel>(panel: &mut P, stroke: Stroke)
     requires { falls stroke.ink ≡ true }
-    ensures cells { P.cells panel.new ≡ drawn stroke (P.cells panel.old) }
-    ensures reached { Reached P.puts panel.old panel.new }
+    ensures { Drew P.make panel.old (drawn stroke (P.make.cells panel.old)) panel.new }
 {
     for place in (0..PLACES).rev() {
         step(panel, stroke, place);
@@ -121,33 +124,41 @@ fn draw_down<P: Panel>(panel: &mut P, stroke: Stroke)
 }
 
 // Draws a stroke that touches no more than one place: no loop, since most strokes are such.
-fn draw_at<P: Panel>(panel: &mut P, stroke: Stroke, column: u8, row: u8)
-    requires { Only stroke.ink column row }
-    ensures cells { P.cells panel.new ≡ drawn stroke (P.cells panel.old) }
-    ensures reached { Reached P.puts panel.old panel.new }
+fn draw_at<P: Panel>(panel: &mut P, stroke: Stroke, at: Position)
+    requires { Only stroke.ink at.column at.row }
+    ensures { Drew P.make panel.old (drawn stroke (P.make.cells panel.old)) panel.new }
 {
-    if let Some(place) = place_at(column, row) {
+    if let Some(place) = at.place() {
         step(panel, stroke, place);
     }
 }
 
-// Writes one cell, with nothing to hand over but numbers: the stroke `Write` in any area that holds the column and row.
-pub fn write_cell<P: Panel>(panel: &mut P, column: u8, row: u8, cell: u64)
-    ensures cells { P.cells panel.new ≡ written column row cell (P.cells panel.old) }
-    ensures reached { Reached P.puts panel.old panel.new }
+// Writes one cell, with nothing to hand over but numbers: the stroke `Write` in any area that holds the position.
+pub fn write_cell<P: Panel>(panel: &mut P, at: Position, cell: u64)
+    ensures { Drew P.make panel.old (written at.column at.row cell (P.make.cells panel.old)) panel.new }
 {
-    if let Some(spot) = place_at(column, row) {
+    if let Some(spot) = at.place() {
         let _ = panel.put(spot, cell);
     }
 }
 
+// All forty cells, by place.
+pub fn cells<P: Panel>(panel: &P) -> [u64; 40]
+    ensures { result ≡ P.make.cells panel.now }
+{
+    let mut all = [BLANK; PLACES];
+    for (place, cell) in all.iter_mut().enumerate() {
+        *cell = panel.look(place).unwrap_or(BLANK);
+    }
+    all
+}
+
 // By puts alone, so that what waited to be painted still waits.
 pub fn draw<P: Panel>(panel: &mut P, stroke: Stroke)
-    ensures cells { P.cells panel.new ≡ drawn stroke (P.cells panel.old) }
-    ensures reached { Reached P.puts panel.old panel.new }
+    ensures { Drew P.make panel.old (drawn stroke (P.make.cells panel.old)) panel.new }
 {
     match stroke.ink {
-        Ink::Write { column, row, .. } => draw_at(panel, stroke, column, row),
+        Ink::Write { column, row, .. } => draw_at(panel, stroke, Position { column, row }),
         Ink::ShiftRight { .. } | Ink::ScrollDown => draw_down(panel, stroke),
         Ink::Blank | Ink::BlankRow { .. } | Ink::ShiftLeft { .. } | Ink::ScrollUp => draw_up(
             panel, stroke,

@@ -1,12 +1,13 @@
 -- The numbers by which marks, modes, windows, classes and faults are told.
 -- Assumes nothing.
-use Rattle.std.specs.Prelude.{ℕ}
+use Rattle.std.specs.Prelude.{ℕ, cond, Ok, Err, Result, ◌==◌}
 use Rattle.reader.specs.declared.words.Mark.{Mark}
 use Rattle.reader.specs.declared.words.Mark.TheVariants.{Point, Comma, Semicolon}
 use Rattle.reader.specs.declared.words.Mode.{Mode}
 use Rattle.reader.specs.declared.words.Mode.TheVariants.{Overwrite, Vertical, Horizontal}
 use Rattle.reader.specs.declared.words.Slot.{Slot}
 use Rattle.reader.specs.declared.words.Slot.TheVariants.{First, Second, Third, Fourth}
+use Rattle.reader.specs.declared.words.NoSlot.{NoSlot}
 use Rattle.reader.specs.declared.words.ReadFault.{ReadFault}
 use Rattle.reader.specs.declared.words.ReadFault.TheVariants.{Unknown, OutOfRange}
 use Rattle.reader.specs.declared.classes.Class.{Class}
@@ -33,6 +34,11 @@ slot_number First = 1
 slot_number Second = 2
 slot_number Third = 3
 slot_number Fourth = 4
+
+-- the slot that has a number; 0, the whole glass, is none
+abbrev pub slot_numbered : ℕ → Result Slot NoSlot
+slot_numbered n =
+    cond (n == 1) (Ok First) (cond (n == 2) (Ok Second) (cond (n == 3) (Ok Third) (cond (n == 4) (Ok Fourth) (Err (record { })))))
 
 abbrev pub class_number : Class → ℕ
 class_number Ignored = 0

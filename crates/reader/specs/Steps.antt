@@ -73,6 +73,10 @@ within lo hi b = nat_le lo b && nat_le b hi
 abbrev pub digit : ℕ → ℕ → Bool
 digit n b = b == n || b == 0x30 + n
 
+-- an operand that says no or yes
+abbrev pub said : ℕ → Option Bool
+said b = cond (digit 0 b) (Some false) (cond (digit 1 b) (Some true) None)
+
 -- operand k of a command is out of its range
 abbrev pub off_esc : ℕ → ℕ → Step
 off_esc second k = fails (OutOfRange 0x1B second k)

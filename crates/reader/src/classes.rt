@@ -4,38 +4,31 @@ ghost use Rattle.reader.specs.Numbers.{class_number};
 ghost use Rattle.reader.specs.Classes.{class_at, class_of, place_of};
 ghost use Rattle.reader.specs.Agrees.{class_by, TableAgrees};
 
-#[derive(Clone, Copy)]
+#[derive(Clone, Copy, Debug, PartialEq, Eq)]
 pub enum Class {
     // ignored at rest, and a fault after ESC and US
-    Ignored,
-    Character,
+    Ignored = 0,
+    Character = 1,
     // a command that is this byte
-    OneByte,
-    OpensEsc,
-    OpensUs,
+    OneByte = 2,
+    OpensEsc = 3,
+    OpensUs = 4,
     // a command that ends with its second byte, this one
-    TwoBytes,
-    TakesOperands,
+    TwoBytes = 5,
+    TakesOperands = 6,
 }
 
-impl Class {
-    pub fn number(self) -> u8
-        ensures { result ≡ class_number self }
-    {
-        match self {
-            Class::Ignored => 0,
-            Class::Character => 1,
-            Class::OneByte => 2,
-            Class::OpensEsc => 3,
-            Class::OpensUs => 4,
-            Class::TwoBytes => 5,
-            Class::TakesOperands => 6,
-        }
+// The number by which it is told.
+impl From<Class> for u8 {
+    ghost from_gives = { λ class number. number ≡ class_number class };
+
+    fn from(class: Class) -> u8 {
+        class as u8
     }
 }
 
 // The three pages of the table: 256 bytes at rest, after ESC, after US.
-#[derive(Clone, Copy)]
+#[derive(Clone, Copy, Debug, PartialEq, Eq)]
 pub enum Page {
     Resting,
     Esc,

@@ -2,7 +2,7 @@
 ghost use Rattle.std.specs.Prelude.{◌≡◌, slice_set};
 ghost use Rattle.reader.specs.Steps.{defined, step};
 
-use crate::words::{Command, Outcome, Reading, Step};
+use crate::words::{Command, ESC, Outcome, Reading, Step};
 
 const BLANK: [u8; 5] = [0; 5];
 
@@ -11,7 +11,7 @@ pub(crate) fn one(byte: u8) -> Step
 {
     match byte {
         1 => Step::pending(Reading::DefineFirst),
-        _ => Step::off_esc(b'&', 1),
+        _ => Step::off(ESC, b'&', 1),
     }
 }
 
@@ -20,7 +20,7 @@ pub(crate) fn first_code(byte: u8) -> Step
 {
     match byte {
         0x20..=0xFF => Step::pending(Reading::DefineLast { first: byte }),
-        _ => Step::off_esc(b'&', 2),
+        _ => Step::off(ESC, b'&', 2),
     }
 }
 
@@ -29,7 +29,7 @@ pub(crate) fn last_code(first: u8, byte: u8) -> Step
 {
     match byte {
         last if last >= first => Step::pending(Reading::DefineLength { code: first, last }),
-        _ => Step::off_esc(b'&', 3),
+        _ => Step::off(ESC, b'&', 3),
     }
 }
 
@@ -46,7 +46,7 @@ pub(crate) fn length(code: u8, last: u8, byte: u8) -> Step
             at: 0,
             columns: BLANK,
         }),
-        _ => Step::off_esc(b'&', 4),
+        _ => Step::off(ESC, b'&', 4),
     }
 }
 

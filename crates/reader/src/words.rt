@@ -1,39 +1,40 @@
 // The words of the reader: commands, faults, readings and outcomes.
 ghost use Rattle.std.specs.Prelude.{◌≡◌};
-ghost use Rattle.reader.specs.Numbers.{mark_number, mark_byte, mode_number, slot_number, fault_cause, fault_first, fault_second, fault_operand};
-ghost use Rattle.reader.specs.Steps.{done, wait, fails, off_esc, off_us};
+ghost use Rattle.reader.specs.Numbers.{mark_number, mark_byte, mode_number, slot_number, slot_numbered, fault_cause, fault_first, fault_second, fault_operand};
+ghost use Rattle.reader.specs.Steps.{done, wait, fails};
+ghost use Rattle.reader.specs.declared.words.ReadFault.TheVariants.{OutOfRange};
 
 pub(crate) const ESC: u8 = 0x1B;
 
 pub(crate) const US: u8 = 0x1F;
 
 // What is lit beside a character.
-#[derive(Clone, Copy)]
+#[derive(Clone, Copy, Debug, PartialEq, Eq)]
 pub enum Mark {
-    Point,
-    Comma,
-    Semicolon,
+    Point = 1,
+    Comma = 2,
+    Semicolon = 3,
 }
 
 // What happens at the end of a row.
-#[derive(Clone, Copy)]
+#[derive(Clone, Copy, Debug, PartialEq, Eq)]
 pub enum Mode {
-    Overwrite,
-    Vertical,
-    Horizontal,
+    Overwrite = 1,
+    Vertical = 2,
+    Horizontal = 3,
 }
 
 // The number of a window that can be defined, 1 to 4.
-#[derive(Clone, Copy)]
+#[derive(Clone, Copy, Debug, PartialEq, Eq)]
 pub enum Slot {
-    First,
-    Second,
-    Third,
-    Fourth,
+    First = 1,
+    Second = 2,
+    Third = 3,
+    Fourth = 4,
 }
 
 // A character or a command, with its operands. A window `None` is window 0, the whole glass.
-#[derive(Clone, Copy)]
+#[derive(Clone, Copy, Debug, PartialEq, Eq)]
 pub enum Command {
     Character {
         code: u8,
@@ -109,14 +110,14 @@ pub enum Command {
 }
 
 // A command that is malformed, by its first two bytes and the operand that is off, counted from 1.
-#[derive(Clone, Copy)]
+#[derive(Clone, Copy, Debug, PartialEq, Eq)]
 pub enum ReadFault {
     Unknown { first: u8, second: u8 },
     OutOfRange { first: u8, second: u8, operand: u8 },
 }
 
 // How far an item is read: the operand that comes next is in the name, those before it are the fields.
-#[derive(Clone, Copy)]
+#[derive(Clone, Copy, Debug, PartialEq, Eq)]
 pub enum Reading {
     Rest,
     AfterEsc,
@@ -181,7 +182,7 @@ pub enum Reading {
 }
 
 // What a byte amounts to.
-#[derive(Clone, Copy)]
+#[derive(Clone, Copy, Debug, PartialEq, Eq)]
 pub enum Outcome {
     // the byte belongs to an item that goes on
     Pending,
@@ -195,7 +196,7 @@ pub enum Outcome {
     Faulty { fault: ReadFault },
 }
 
-#[derive(Clone, Copy)]
+#[derive(Clone, Copy, Debug, PartialEq, Eq)]
 pub struct Step {
     pub next: Reading,
     pub outcome: Outcome,
@@ -232,40 +233,28 @@ impl Step {
         }
     }
 
-    // An operand of the command ESC `second` is out of its range.
-    pub(crate) fn off_esc(second: u8, operand: u8) -> Step
-        ensures { result ≡ off_esc second operand }
+    // An operand of a command, counted from 1, is out of its range.
+    pub(crate) fn off(first: u8, second: u8, operand: u8) -> Step
+        ensures { result ≡ fails (OutOfRange first second operand) }
     {
         Step::faulty(ReadFault::OutOfRange {
-            first: ESC,
-            second,
-            operand,
-        })
-    }
-
-    // An operand of the command US `second` is out of its range.
-    pub(crate) fn off_us(second: u8, operand: u8) -> Step
-        ensures { result ≡ off_us second operand }
-    {
-        Step::faulty(ReadFault::OutOfRange {
-            first: US,
+            first,
             second,
             operand,
         })
     }
 }
 
-impl Mark {
-    pub fn number(self) -> u8
-        ensures { result ≡ mark_number self }
-    {
-        match self {
-            Mark::Point => 1,
-            Mark::Comma => 2,
-            Mark::Semicolon => 3,
-        }
-    }
+// The number by which it is told.
+impl From<Mark> for u8 {
+    ghost from_gives = { λ mark number. number ≡ mark_number mark };
 
+    fn from(mark: Mark) -> u8 {
+        mark as u8
+    }
+}
+
+impl Mark {
     // The second byte of the command that sets the mark.
     pub(crate) fn byte(self) -> u8
         ensures { result ≡ mark_byte self }
@@ -278,28 +267,41 @@ impl Mark {
     }
 }
 
-impl Mode {
-    pub fn number(self) -> u8
-        ensures { result ≡ mode_number self }
-    {
-        match self {
-            Mode::Overwrite => 1,
-            Mode::Vertical => 2,
-            Mode::Horizontal => 3,
+// The number by which it is told.
+impl From<Mode> for u8 {
+    ghost from_gives = { λ mode number. number ≡ mode_number mode };
+
+    fn from(mode: Mode) -> u8 {
+        mode as u8
+    }
+}
+
+// A number that no slot has.
+#[derive(Clone, Copy, Debug, PartialEq, Eq)]
+pub struct NoSlot;
+
+impl TryFrom<u8> for Slot {
+    type Error = NoSlot;
+
+    ghost try_from_gives = { λ number slot. slot ≡ slot_numbered number };
+
+    fn try_from(number: u8) -> Result<Slot, NoSlot> {
+        match number {
+            1 => Ok(Slot::First),
+            2 => Ok(Slot::Second),
+            3 => Ok(Slot::Third),
+            4 => Ok(Slot::Fourth),
+            _ => Err(NoSlot),
         }
     }
 }
 
-impl Slot {
-    pub fn number(self) -> u8
-        ensures { result ≡ slot_number self }
-    {
-        match self {
-            Slot::First => 1,
-            Slot::Second => 2,
-            Slot::Third => 3,
-            Slot::Fourth => 4,
-        }
+// The number by which it is told; the whole glass is window 0.
+impl From<Slot> for u8 {
+    ghost from_gives = { λ slot number. number ≡ slot_number slot };
+
+    fn from(slot: Slot) -> u8 {
+        slot as u8
     }
 }
 
@@ -317,8 +319,7 @@ impl ReadFault {
         ensures { result ≡ fault_first self }
     {
         match self {
-            ReadFault::Unknown { first, .. } => first,
-            ReadFault::OutOfRange { first, .. } => first,
+            ReadFault::Unknown { first, .. } | ReadFault::OutOfRange { first, .. } => first,
         }
     }
 
@@ -326,8 +327,7 @@ impl ReadFault {
         ensures { result ≡ fault_second self }
     {
         match self {
-            ReadFault::Unknown { second, .. } => second,
-            ReadFault::OutOfRange { second, .. } => second,
+            ReadFault::Unknown { second, .. } | ReadFault::OutOfRange { second, .. } => second,
         }
     }
 

@@ -1,4 +1,3 @@
-pub mod Forty
 pub mod Strip
 pub mod Latest
 pub mod Laws

@@ -5,7 +5,7 @@ ghost use Rattle.terms.specs.Faults.{inner, display_cause, display_first, displa
 
 use reader::words::ReadFault;
 
-#[derive(Clone, Copy)]
+#[derive(Clone, Copy, Debug, PartialEq, Eq)]
 pub enum DisplayFault {
     Read { fault: ReadFault },
     WindowDefined,
@@ -26,11 +26,16 @@ impl From<ReadFault> for DisplayFault {
 }
 
 // A fault as it is reported: of what the host said, or of what the macro played.
-#[derive(Clone, Copy)]
+#[derive(Clone, Copy, Debug, PartialEq, Eq)]
 pub enum Fault {
     Said { fault: DisplayFault },
     Played { fault: DisplayFault },
 }
+
+// What a fault place holds before it is used.
+pub const UNUSED: Fault = Fault::Said {
+    fault: DisplayFault::NoMacro,
+};
 
 const ESC: u8 = 0x1B;
 
@@ -42,8 +47,7 @@ impl Fault {
         ensures { result ≡ inner self }
     {
         match self {
-            Fault::Said { fault } => fault,
-            Fault::Played { fault } => fault,
+            Fault::Said { fault } | Fault::Played { fault } => fault,
         }
     }
 }

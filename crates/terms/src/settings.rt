@@ -12,9 +12,9 @@ pub struct Settings {
 }
 
 // Why settings are refused.
-#[derive(Clone, Copy)]
+#[derive(Clone, Copy, Debug, PartialEq, Eq)]
 pub enum SettingsRefusal {
-    Set,
-    Table,
-    Brightness,
+    Set = 11,
+    Table = 12,
+    Brightness = 13,
 }

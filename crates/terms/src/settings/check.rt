@@ -12,7 +12,7 @@ impl Settings {
             Err(SettingsRefusal::Set)
         } else if table > 8 {
             Err(SettingsRefusal::Table)
-        } else if brightness < 1 || brightness > 4 {
+        } else if !(1..=4).contains(&brightness) {
             Err(SettingsRefusal::Brightness)
         } else {
             Ok(Settings {
@@ -42,14 +42,11 @@ impl Settings {
     }
 }
 
-impl SettingsRefusal {
-    pub fn number(self) -> u8
-        ensures { result ≡ settings_refusal self }
-    {
-        match self {
-            SettingsRefusal::Set => 11,
-            SettingsRefusal::Table => 12,
-            SettingsRefusal::Brightness => 13,
-        }
+// The number by which it is told.
+impl From<SettingsRefusal> for u8 {
+    ghost from_gives = { λ refusal number. number ≡ settings_refusal refusal };
+
+    fn from(refusal: SettingsRefusal) -> u8 {
+        refusal as u8
     }
 }

@@ -6,9 +6,9 @@ use Rattle.panel.proofs.draw.draw_at.Goals as goal
 pub returns-in-Some : goal.returns-in-Some
 returns-in-Some g c =
     record {
-      cells = c.step.ensures.cells ∙ drawn_one _ _ _ _ _ (g.P.Panel.laws.forty _) c.requires (sym c.in-Some.is ∙ c.place_at.ensures);
+      cells = c.step.ensures.cells ∙ drawn_one _ _ _ _ _ (g.P.Panel.laws.forty _) c.requires (sym c.in-Some.is ∙ c.place.ensures);
       reached = c.step.ensures.reached;
     }
 
 pub returns-in_default : goal.returns-in_default
-returns-in_default g c = record { cells = drawn_none _ _ _ _ c.requires (sym c.in_default.is ∙ c.place_at.ensures); reached = none }
+returns-in_default g c = record { cells = drawn_none _ _ _ _ c.requires (sym c.in_default.is ∙ c.place.ensures); reached = none }

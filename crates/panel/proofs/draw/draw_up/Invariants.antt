@@ -5,5 +5,5 @@ use Rattle.panel.proofs.draw.draw_up.Given as goal
 
 abbrev pub invariant-loop-place : goal.invariant-loop-place
 invariant-loop-place g l =
-    Joined (drawn l.stroke (g.P.Panel.cells l.initial.panel)) (g.P.Panel.cells l.initial.panel) (g.P.Panel.cells l.panel) l.place
-    × Reached g.P.Panel.puts l.initial.panel l.panel
+    Joined (drawn l.stroke (g.P.Panel.make.cells l.initial.panel)) (g.P.Panel.make.cells l.initial.panel) (g.P.Panel.make.cells l.panel) l.place
+    × Reached g.P.Panel.make.puts l.initial.panel l.panel

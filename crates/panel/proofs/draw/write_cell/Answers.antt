@@ -8,9 +8,9 @@ use Rattle.panel.proofs.draw.write_cell.Goals as goal
 
 pub returns-in-Some : goal.returns-in-Some
 returns-in-Some g c =
-    let x = c.args.column in
-    let y = c.args.row in
-    let cs = g.P.Panel.cells c.args.panel.now in
+    let x = c.args.at.column in
+    let y = c.args.at.row in
+    let cs = g.P.Panel.make.cells c.args.panel.now in
     let at = placed_at x y c.in-Some.spot c.in-Some.ensures in
     let is : c.in-Some.spot ≡ place x y = at.1 in
     let on = on_glass x y at.0 in
@@ -23,10 +23,10 @@ returns-in-Some g c =
 
 pub returns-in_default : goal.returns-in_default
 returns-in_default g c =
-    let x = c.args.column in
-    let y = c.args.row in
-    let cs = g.P.Panel.cells c.args.panel.now in
+    let x = c.args.at.column in
+    let y = c.args.at.row in
+    let cs = g.P.Panel.make.cells c.args.panel.now in
     record {
-      cells = sym (cond-false _ (set cs (place x y) c.args.cell) cs (unplaced x y (sym c.in_default.is ∙ c.place_at.ensures)));
+      cells = sym (cond-false _ (set cs (place x y) c.args.cell) cs (unplaced x y (sym c.in_default.is ∙ c.place.ensures)));
       reached = none;
     }
