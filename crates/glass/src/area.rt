@@ -45,6 +45,16 @@ impl Area {
         (self.x1..=self.x2).contains(&at.column) && (self.y1..=self.y2).contains(&at.row)
     }
 
+    // Its first column and row.
+    pub fn home(self) -> Position
+        ensures { result ≡ record { column = self.x1; row = self.y1 } }
+    {
+        Position {
+            column: self.x1,
+            row: self.y1,
+        }
+    }
+
     // Whether it lies on the glass and has a place.
     pub fn is_lawful(self) -> bool
         ensures { result ≡ lawful self }

@@ -38,7 +38,7 @@ slot_number Fourth = 4
 -- the slot that has a number; 0, the whole glass, is none
 abbrev pub slot_numbered : ℕ → Result Slot NoSlot
 slot_numbered n =
-    cond (n == 1) (Ok First) (cond (n == 2) (Ok Second) (cond (n == 3) (Ok Third) (cond (n == 4) (Ok Fourth) (Err (record { })))))
+    cond (n == 1) (Ok First) (cond (n == 2) (Ok Second) (cond (n == 3) (Ok Third) (cond (n == 4) (Ok Fourth) (Err (record {})))))
 
 abbrev pub class_number : Class → ℕ
 class_number Ignored = 0

@@ -8,7 +8,7 @@ use Rattle.state.specs.declared.tape.Use.TheVariants.{Blank, Recording, Stored, 
 use Rattle.state.specs.Reels.{lawful_reel}
 use Rattle.state.specs.Tapes.{Reel, blank_reel, macro_reel, recorded_by, stored_by, overflow_by, is_last, wound_by, due_by, nth_byte, macro_by}
 
-abbrev reel : Use → List ℕ → Reel
+abbrev pub reel : Use → List ℕ → Reel
 reel u bs = record { current = u; bytes = bs }
 
 macro_some : (bs : List ℕ) → 1 ≤ length bs → reel Stored bs ≡ macro_reel bs

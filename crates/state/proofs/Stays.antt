@@ -10,7 +10,7 @@ use Rattle.state.specs.declared.moves.Way.TheVariants.{Left, Right, Down, Up}
 use Rattle.state.specs.Moves.{toward}
 
 pub step_inside : (w : Way) (m : Mode) (a : Area) (x y : ℕ) → lawful a ≡ true → holds a x y ≡ true →
-    holds a (toward w m a x y).column (toward w m a x y).row ≡ true
+    holds a (toward w m a x y).at.column (toward w m a x y).at.row ≡ true
 step_inside Left Overwrite a x y l h = grind (arith, nat_tests)
 step_inside Left Vertical a x y l h = grind (arith, nat_tests)
 step_inside Left Horizontal a x y l h = grind (arith, nat_tests)

@@ -1,5 +1,5 @@
 -- What each command does.
-use Rattle.std.specs.Prelude.{ℕ, Bool, List, [], ◌∷◌, ◌++◌, Some, None, Ok, Err, Option, Result}
+use Rattle.std.specs.Prelude.{◌≡◌, ℕ, Bool, List, [], ◌∷◌, ◌++◌, Some, None, Ok, Err, Option, Result}
 use Rattle.glass.specs.declared.area.Area.{Area}
 use Rattle.glass.specs.Places.{whole}
 use Rattle.glass.specs.declared.stroke.Ink.{Ink}
@@ -32,6 +32,11 @@ use Rattle.state.specs.Core.{Core, fresh, window, with_layout, with_pen, with_sh
 pub record Effect : Type 0 where
   pub core : Core
   pub answer : Result Strokes DisplayFault
+
+-- a command was carried out: its answer, and the state after it
+pub record Does (e : Effect) (r : Result Strokes DisplayFault) (c : Core) : Type 0 where
+  pub answer : r ≡ e.answer
+  pub core : c ≡ e.core
 
 abbrev pub no_strokes : Strokes
 no_strokes = record { first = None; second = None }

@@ -1,9 +1,9 @@
 -- Windows and cursor: what defining, cancelling and turning leave.
-use Rattle.std.specs.Prelude.{ℕ, ◌+◌, ◌-◌, cond, Some, None, Ok, Err, Option, Result, ◌==◌}
+use Rattle.std.specs.Prelude.{◌≡◌, ℕ, ◌+◌, ◌-◌, cond, Some, None, Ok, Err, Option, Result, ◌==◌}
 use Rattle.glass.specs.declared.area.Area.{Area}
+use Rattle.glass.specs.declared.area.Position.{Position}
 use Rattle.glass.specs.Places.{whole, lawful, holds}
 use Rattle.reader.specs.declared.words.Slot.{Slot}
-use Rattle.state.specs.declared.moves.Cursor.{Cursor}
 use Rattle.state.specs.declared.moves.Way.{Way}
 use Rattle.state.specs.declared.moves.Spot.{Spot}
 use Rattle.state.specs.Moves.{toward, target}
@@ -23,7 +23,7 @@ pub record Layout : Type 0 where
   pub row : ℕ
 
 abbrev pub layout : Windows → Layout
-layout w = record { slots = w.slots; current = w.current; column = w.column; row = w.row }
+layout w = record { slots = w.slots; current = w.current; column = w.cursor.column; row = w.cursor.row }
 
 -- the current window's area
 abbrev pub here : Layout → Area
@@ -33,12 +33,12 @@ here l = area_of l.slots l.current
 abbrev pub at_spot : Layout → ℕ → ℕ → Layout
 at_spot l x y = record { slots = l.slots; current = l.current; column = x; row = y }
 
-abbrev pub cursor_of : Layout → Cursor
+abbrev pub cursor_of : Layout → Position
 cursor_of l = record { column = l.column; row = l.row }
 
 -- one step of the cursor in a mode
 abbrev pub stepped : Way → Mode → Layout → Layout
-stepped w m l = at_spot l (toward w m (here l) l.column l.row).column (toward w m (here l) l.column l.row).row
+stepped w m l = at_spot l (toward w m (here l) l.column l.row).at.column (toward w m (here l) l.column l.row).at.row
 
 abbrev pub jumped : Spot → Layout → Layout
 jumped s l = at_spot l (target s (here l) l.row).column (target s (here l) l.row).row
@@ -59,6 +59,11 @@ new_layout = homed no_windows None
 pub record Turn : Type 0 where
   pub answer : Result Unit DisplayFault
   pub left : Layout
+
+-- the answer was given, and this is left
+pub record Turns (t : Turn) (r : Result Unit DisplayFault) (l : Layout) : Type 0 where
+  pub answer : r ≡ t.answer
+  pub left : l ≡ t.left
 
 abbrev pub refuses : DisplayFault → Layout → Turn
 refuses f l = record { answer = Err f; left = l }

@@ -1,6 +1,7 @@
 -- Where the cursor goes inside an area, and what is then drawn.
 use Rattle.std.specs.Prelude.{ℕ, ◌+◌, ◌-◌, cond, Some, None, nat_lt}
 use Rattle.glass.specs.declared.area.Area.{Area}
+use Rattle.glass.specs.declared.area.Position.{Position}
 use Rattle.glass.specs.declared.stroke.Ink.{Ink}
 use Rattle.glass.specs.declared.stroke.Ink.TheVariants.{ShiftLeft, ShiftRight, ScrollUp, ScrollDown}
 use Rattle.reader.specs.declared.words.Mode.{Mode}
@@ -12,10 +13,10 @@ use Rattle.state.specs.declared.moves.Spot.{Spot}
 use Rattle.state.specs.declared.moves.Spot.TheVariants.{Home, RowStart, RowEnd, Corner}
 
 abbrev pub goes : ℕ → ℕ → Move
-goes x y = record { column = x; row = y; ink = None }
+goes x y = record { at = record { column = x; row = y }; ink = None }
 
 abbrev pub draws : Ink → ℕ → ℕ → Move
-draws i x y = record { column = x; row = y; ink = Some i }
+draws i x y = record { at = record { column = x; row = y }; ink = Some i }
 
 -- right of the last column
 abbrev pub past_right : Mode → Area → ℕ → ℕ → Move
@@ -60,8 +61,8 @@ toward Down m a x y = downward m a x y
 toward Up m a x y = upward m a x y
 
 -- where a jump from row y ends
-abbrev pub target : Spot → Area → ℕ → Move
-target Home a y = goes a.x1 a.y1
-target RowStart a y = goes a.x1 y
-target RowEnd a y = goes a.x2 y
-target Corner a y = goes a.x2 a.y2
+abbrev pub target : Spot → Area → ℕ → Position
+target Home a y = record { column = a.x1; row = a.y1 }
+target RowStart a y = record { column = a.x1; row = y }
+target RowEnd a y = record { column = a.x2; row = y }
+target Corner a y = record { column = a.x2; row = a.y2 }

@@ -1,7 +1,7 @@
 -- What questions tell of the state.
-use Rattle.std.specs.Prelude.{ℕ, List, Some, None, Option}
+use Rattle.std.specs.Prelude.{ℕ, Bool, true, false, List, [], ◌∷◌, Some, None, Option}
 use Rattle.reader.specs.declared.words.Slot.{Slot}
-use Rattle.reader.specs.Numbers.{slot_number}
+use Rattle.reader.specs.Numbers.{slot_number, mode_number}
 use Rattle.state.specs.declared.controller.questions.Modes.{Modes}
 use Rattle.state.specs.Lamps.{lamp_number}
 use Rattle.state.specs.Cells.{user_bits}
@@ -29,6 +29,16 @@ modes_of c = record {
   set = c.pen.set;
   brightness = c.brightness;
 }
+
+abbrev pub bit : Bool → ℕ
+bit false = 0
+bit true = 1
+
+-- each by its number, in this order
+abbrev pub mode_numbers : Modes → List ℕ
+mode_numbers m =
+    mode_number m.mode ∷ m.window ∷ bit m.cursor ∷ bit m.user ∷ bit m.recording ∷ bit m.playing ∷ bit m.selected ∷
+    m.blink ∷ m.table ∷ m.set ∷ m.brightness ∷ []
 
 -- the bits of a user character, if it is defined
 abbrev pub bits_of : Option (List ℕ) → Option ℕ

@@ -5,7 +5,7 @@ ghost use Rattle.state.specs.Cells.{built_in, user_cell, user_bits, cell_of, mar
 use reader::words::{Mark, Mode};
 
 // How characters are written: in which mode, by which international set and code table, and whether by user characters.
-#[derive(Clone, Copy)]
+#[derive(Clone, Copy, Debug, PartialEq, Eq)]
 pub struct Pen {
     pub mode: Mode,
     pub set: u8,
@@ -24,10 +24,7 @@ const USER: u64 = 0x400_0000_0000;
 fn mark_of(mark: Option<Mark>) -> u8
     ensures { result ≡ mark_of mark }
 {
-    match mark {
-        Some(mark) => mark.number(),
-        None => 0,
-    }
+    mark.map_or(0, u8::from)
 }
 
 // The cell of a built-in character.
@@ -43,11 +40,7 @@ pub(crate) fn user_bits(columns: [u8; 5]) -> u64
     ensures small { result < 2 ^ 40 }
 {
     let [a, b, c, d, e] = columns;
-    a as u64
-        + 0x100 * b as u64
-        + 0x1_0000 * c as u64
-        + 0x100_0000 * d as u64
-        + 0x1_0000_0000 * e as u64
+    u64::from_le_bytes([a, b, c, d, e, 0, 0, 0])
 }
 
 // The cell of a character: the user's where one is defined and in use, and else the built-in one.

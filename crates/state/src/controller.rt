@@ -29,21 +29,21 @@ pub struct Controller {
 }
 
 // What a command draws, in order.
-#[derive(Clone, Copy)]
+#[derive(Clone, Copy, Debug, PartialEq, Eq)]
 pub struct Strokes {
     pub first: Option<Stroke>,
     pub second: Option<Stroke>,
 }
 
 // What a byte draws, and the fault that it gives, when it is read.
-#[derive(Clone, Copy)]
+#[derive(Clone, Copy, Debug, PartialEq, Eq)]
 pub struct Reply {
     pub strokes: Strokes,
     pub fault: Option<Fault>,
 }
 
 // What a byte of the host draws and gives.
-#[derive(Clone, Copy)]
+#[derive(Clone, Copy, Debug, PartialEq, Eq)]
 pub struct HostReply {
     // the end of a playback blanks the window before the byte is read
     pub ending: Option<Stroke>,

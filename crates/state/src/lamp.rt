@@ -2,7 +2,7 @@
 ghost use Rattle.std.specs.Prelude.{◌≡◌};
 ghost use Rattle.state.specs.Lamps.{lamp_set, lamp_ticked, lamp_lit, lamp_number};
 
-#[derive(Clone, Copy)]
+#[derive(Clone, Copy, Debug, PartialEq, Eq)]
 pub enum Lamp {
     Lit,
     Dark,
@@ -44,14 +44,17 @@ impl Lamp {
             Lamp::Blinking { period, ticks } => ticks < 5 * period as u16,
         }
     }
+}
 
-    pub(crate) fn number(self) -> u8
-        ensures { result ≡ lamp_number self }
-    {
-        match self {
+// The period of the command that set it.
+impl From<Lamp> for u8 {
+    ghost from_gives = { λ lamp number. number ≡ lamp_number lamp };
+
+    fn from(lamp: Lamp) -> u8 {
+        match lamp {
             Lamp::Lit => 0,
             Lamp::Dark => 255,
-            Lamp::Blinking { period, ticks: _ } => period,
+            Lamp::Blinking { period, .. } => period,
         }
     }
 }

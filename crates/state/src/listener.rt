@@ -6,20 +6,20 @@ use reader::words::{Command, Reading};
 
 pub mod calls;
 
-#[derive(Clone, Copy)]
+#[derive(Clone, Copy, Debug, PartialEq, Eq)]
 pub enum Voice {
     Host,
     Macro,
 }
 
 // Who speaks.
-#[derive(Clone, Copy)]
+#[derive(Clone, Copy, Debug, PartialEq, Eq)]
 pub struct Speaker {
     pub voice: Voice,
 }
 
 // A command, with who spoke it.
-#[derive(Clone, Copy)]
+#[derive(Clone, Copy, Debug, PartialEq, Eq)]
 pub struct Item {
     pub voice: Voice,
     pub command: Command,

@@ -1,12 +1,12 @@
 // Where the cursor goes inside an area, and what is then drawn.
 ghost use Rattle.std.specs.Prelude.{◌≡◌};
-ghost use Rattle.state.specs.Moves.{rightward, leftward, downward, upward, toward, target};
+ghost use Rattle.state.specs.Moves.{goes, draws, rightward, leftward, downward, upward, toward, target};
 
-use glass::area::Area;
+use glass::area::{Area, Position};
 use glass::stroke::Ink;
 use reader::words::Mode;
 
-#[derive(Clone, Copy)]
+#[derive(Clone, Copy, Debug, PartialEq, Eq)]
 pub enum Way {
     Left,
     Right,
@@ -15,7 +15,7 @@ pub enum Way {
 }
 
 // A place of the window that the cursor jumps to.
-#[derive(Clone, Copy)]
+#[derive(Clone, Copy, Debug, PartialEq, Eq)]
 pub enum Spot {
     Home,
     RowStart,
@@ -23,153 +23,96 @@ pub enum Spot {
     Corner,
 }
 
-// A column and a row of the glass.
-#[derive(Clone, Copy)]
-pub struct Cursor {
-    pub column: u8,
-    pub row: u8,
-}
-
 // The cursor after a move, and what the move draws.
-#[derive(Clone, Copy)]
+#[derive(Clone, Copy, Debug, PartialEq, Eq)]
 pub struct Move {
-    pub column: u8,
-    pub row: u8,
+    pub at: Position,
     pub ink: Option<Ink>,
 }
 
-fn right(mode: Mode, area: Area, column: u8, row: u8) -> Move
-    ensures { result ≡ rightward mode area column row }
+// The cursor goes to a place, and nothing is drawn.
+fn goes(column: u8, row: u8) -> Move
+    ensures { result ≡ goes column row }
 {
-    match mode {
-        _ if column < area.x2 => Move {
-            column: column + 1,
-            row,
-            ink: None,
-        },
-        Mode::Horizontal => Move {
-            column,
-            row,
-            ink: Some(Ink::ShiftLeft { row }),
-        },
-        _ if row < area.y2 => Move {
-            column: area.x1,
-            row: row + 1,
-            ink: None,
-        },
-        Mode::Overwrite => Move {
-            column: area.x1,
-            row: area.y1,
-            ink: None,
-        },
-        Mode::Vertical => Move {
-            column: area.x1,
-            row: area.y2,
-            ink: Some(Ink::ScrollUp),
-        },
+    Move {
+        at: Position { column, row },
+        ink: None,
     }
 }
 
-fn left(mode: Mode, area: Area, column: u8, row: u8) -> Move
-    ensures { result ≡ leftward mode area column row }
+fn draws(ink: Ink, column: u8, row: u8) -> Move
+    ensures { result ≡ draws ink column row }
 {
-    match mode {
-        _ if column > area.x1 => Move {
-            column: column - 1,
-            row,
-            ink: None,
-        },
-        Mode::Horizontal => Move {
-            column,
-            row,
-            ink: Some(Ink::ShiftRight { row }),
-        },
-        _ if row > area.y1 => Move {
-            column: area.x2,
-            row: row - 1,
-            ink: None,
-        },
-        Mode::Overwrite => Move {
-            column: area.x2,
-            row: area.y2,
-            ink: None,
-        },
-        Mode::Vertical => Move {
-            column: area.x2,
-            row: area.y1,
-            ink: Some(Ink::ScrollDown),
-        },
+    Move {
+        at: Position { column, row },
+        ink: Some(ink),
     }
 }
 
-fn down(mode: Mode, area: Area, column: u8, row: u8) -> Move
-    ensures { result ≡ downward mode area column row }
+fn right(mode: Mode, area: Area, at: Position) -> Move
+    ensures { result ≡ rightward mode area at.column at.row }
 {
+    let Position { column, row } = at;
     match mode {
-        _ if row < area.y2 => Move {
-            column,
-            row: row + 1,
-            ink: None,
-        },
-        Mode::Overwrite => Move {
-            column,
-            row: area.y1,
-            ink: None,
-        },
-        Mode::Vertical => Move {
-            column,
-            row,
-            ink: Some(Ink::ScrollUp),
-        },
-        Mode::Horizontal => Move {
-            column,
-            row,
-            ink: None,
-        },
+        _ if column < area.x2 => goes(column + 1, row),
+        Mode::Horizontal => draws(Ink::ShiftLeft { row }, column, row),
+        _ if row < area.y2 => goes(area.x1, row + 1),
+        Mode::Overwrite => goes(area.x1, area.y1),
+        Mode::Vertical => draws(Ink::ScrollUp, area.x1, area.y2),
     }
 }
 
-fn up(mode: Mode, area: Area, column: u8, row: u8) -> Move
-    ensures { result ≡ upward mode area column row }
+fn left(mode: Mode, area: Area, at: Position) -> Move
+    ensures { result ≡ leftward mode area at.column at.row }
 {
+    let Position { column, row } = at;
     match mode {
-        _ if row > area.y1 => Move {
-            column,
-            row: row - 1,
-            ink: None,
-        },
-        Mode::Overwrite => Move {
-            column,
-            row: area.y2,
-            ink: None,
-        },
-        Mode::Vertical => Move {
-            column,
-            row,
-            ink: Some(Ink::ScrollDown),
-        },
-        Mode::Horizontal => Move {
-            column,
-            row,
-            ink: None,
-        },
+        _ if column > area.x1 => goes(column - 1, row),
+        Mode::Horizontal => draws(Ink::ShiftRight { row }, column, row),
+        _ if row > area.y1 => goes(area.x2, row - 1),
+        Mode::Overwrite => goes(area.x2, area.y2),
+        Mode::Vertical => draws(Ink::ScrollDown, area.x2, area.y1),
+    }
+}
+
+fn down(mode: Mode, area: Area, at: Position) -> Move
+    ensures { result ≡ downward mode area at.column at.row }
+{
+    let Position { column, row } = at;
+    match mode {
+        _ if row < area.y2 => goes(column, row + 1),
+        Mode::Overwrite => goes(column, area.y1),
+        Mode::Vertical => draws(Ink::ScrollUp, column, row),
+        Mode::Horizontal => goes(column, row),
+    }
+}
+
+fn up(mode: Mode, area: Area, at: Position) -> Move
+    ensures { result ≡ upward mode area at.column at.row }
+{
+    let Position { column, row } = at;
+    match mode {
+        _ if row > area.y1 => goes(column, row - 1),
+        Mode::Overwrite => goes(column, area.y2),
+        Mode::Vertical => draws(Ink::ScrollDown, column, row),
+        Mode::Horizontal => goes(column, row),
     }
 }
 
 // One step of the cursor in a mode.
-pub(crate) fn toward(way: Way, mode: Mode, area: Area, column: u8, row: u8) -> Move
-    ensures { result ≡ toward way mode area column row }
+pub(crate) fn toward(way: Way, mode: Mode, area: Area, at: Position) -> Move
+    ensures { result ≡ toward way mode area at.column at.row }
 {
     match way {
-        Way::Left => left(mode, area, column, row),
-        Way::Right => right(mode, area, column, row),
-        Way::Down => down(mode, area, column, row),
-        Way::Up => up(mode, area, column, row),
+        Way::Left => left(mode, area, at),
+        Way::Right => right(mode, area, at),
+        Way::Down => down(mode, area, at),
+        Way::Up => up(mode, area, at),
     }
 }
 
 // Where a jump from a row ends.
-pub(crate) fn target(spot: Spot, area: Area, row: u8) -> Move
+pub(crate) fn target(spot: Spot, area: Area, row: u8) -> Position
     ensures { result ≡ target spot area row }
 {
     let (column, row) = match spot {
@@ -178,9 +121,5 @@ pub(crate) fn target(spot: Spot, area: Area, row: u8) -> Move
         Spot::RowEnd => (area.x2, row),
         Spot::Corner => (area.x2, area.y2),
     };
-    Move {
-        column,
-        row,
-        ink: None,
-    }
+    Position { column, row }
 }

@@ -5,7 +5,7 @@ ghost use Rattle.state.specs.Slots.{at, with_at, clear, clear_all, known, area_o
 use glass::area::{Area, WHOLE};
 use reader::words::Slot;
 
-#[derive(Clone, Copy)]
+#[derive(Clone, Copy, Debug, PartialEq, Eq)]
 pub struct Slots {
     pub first: Option<Area>,
     pub second: Option<Area>,
@@ -17,20 +17,14 @@ pub struct Slots {
 fn is_clear(area: Area, window: Option<Area>) -> bool
     ensures { result ≡ clear area window }
 {
-    match window {
-        Some(other) => area.is_apart(other),
-        None => true,
-    }
+    window.is_none_or(|other| area.is_apart(other))
 }
 
 // Whether window n is the current one.
 pub(crate) fn is_current(current: Option<Slot>, n: Slot) -> bool
     ensures { result ≡ turned_to current n }
 {
-    match current {
-        Some(m) => n.number() == m.number(),
-        None => false,
-    }
+    current == Some(n)
 }
 
 impl Slots {
@@ -72,22 +66,13 @@ impl Slots {
     pub(crate) fn know(self, window: Option<Slot>) -> bool
         ensures { result ≡ known self window }
     {
-        match window {
-            Some(n) => self.at(n).is_some(),
-            None => true,
-        }
+        window.is_none_or(|n| self.at(n).is_some())
     }
 
     // A window's area; window 0 is the whole glass.
     pub(crate) fn area(self, window: Option<Slot>) -> Area
         ensures { result ≡ area_of self window }
     {
-        match window {
-            Some(n) => match self.at(n) {
-                Some(area) => area,
-                None => WHOLE,
-            },
-            None => WHOLE,
-        }
+        window.and_then(|n| self.at(n)).unwrap_or(WHOLE)
     }
 }

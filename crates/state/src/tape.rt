@@ -5,7 +5,7 @@ ghost use Rattle.state.specs.Reels.{lawful_reel};
 pub mod calls;
 
 // What the tape is used for.
-#[derive(Clone, Copy)]
+#[derive(Clone, Copy, Debug, PartialEq, Eq)]
 pub enum Use {
     // there is no macro
     Blank,

@@ -5,6 +5,7 @@ ghost use Rattle.glass.specs.Places.{holds};
 ghost use Rattle.state.specs.Slots.{clears, fits, at, same, known, area_of};
 
 use crate::slots::Slots;
+use glass::area::Position;
 use reader::words::Slot;
 
 pub mod calls;
@@ -14,10 +15,9 @@ pub mod calls;
 pub struct Windows {
     slots: Slots,
     current: Option<Slot>,
-    column: u8,
-    row: u8,
+    cursor: Position,
     ghost sharing: { (n m : Slot) → same n m ≡ false → clears (at slots n) (at slots m) ≡ true },
     ghost fitting: { (n : Slot) → fits (at slots n) ≡ true },
     ghost defined: { known slots current ≡ true },
-    ghost inside: { holds (area_of slots current) column row ≡ true },
+    ghost inside: { holds (area_of slots current) cursor.column cursor.row ≡ true },
 }

@@ -1,9 +1,9 @@
 // A command is carried out.
-ghost use Rattle.std.specs.Prelude.{◌≡◌, Some, Ok};
+ghost use Rattle.std.specs.Prelude.{◌≡◌};
 ghost use Rattle.reader.specs.declared.words.Command.TheVariants.{ClearRow, Initialize};
 ghost use Rattle.state.specs.Core.{core_of, fresh, window};
 ghost use Rattle.terms.specs.Presets.{preset};
-ghost use Rattle.state.specs.Effects.{effect, writes, types, plays, chooses, steps, jumps, no_strokes, inks, answered, stroke, drawing};
+ghost use Rattle.state.specs.Effects.{Does, effect, writes, types, plays, chooses, steps, jumps, quietly, inks, answered, stroke, drawing};
 ghost use Rattle.state.specs.declared.listener.Voice.TheVariants.{Host};
 
 use crate::cell::{Pen, cell_of};
@@ -28,20 +28,14 @@ pub(crate) const NO_STROKES: Strokes = Strokes {
 fn inked(area: Area, ink: Option<Ink>) -> Option<Stroke>
     ensures { result ≡ inks area ink }
 {
-    match ink {
-        Some(ink) => Some(Stroke { area, ink }),
-        None => None,
-    }
+    ink.map(|ink| Stroke { area, ink })
 }
 
 // The window record's answer: it draws nothing.
 fn undrawn(answer: Result<(), DisplayFault>) -> Result<Strokes, DisplayFault>
     ensures { result ≡ answered answer }
 {
-    match answer {
-        Ok(()) => Ok(NO_STROKES),
-        Err(fault) => Err(fault),
-    }
+    answer.map(|_| NO_STROKES)
 }
 
 impl Controller {
@@ -69,8 +63,7 @@ impl Controller {
     }
 
     fn step(&mut self, way: Way) -> Result<Strokes, DisplayFault>
-        ensures answer { result ≡ (steps way (core_of self.old)).answer }
-        ensures core { core_of self.new ≡ (steps way (core_of self.old)).core }
+        ensures { Does (steps way (core_of self.old)) result (core_of self.new) }
     {
         let area = self.windows.here();
         let ink = self.windows.step(way, self.pen.mode);
@@ -81,8 +74,7 @@ impl Controller {
     }
 
     fn write(&mut self, cell: u64) -> Result<Strokes, DisplayFault>
-        ensures answer { result ≡ (writes self.old.pen.mode (core_of self.old) cell).answer }
-        ensures core { core_of self.new ≡ (writes self.old.pen.mode (core_of self.old) cell).core }
+        ensures { Does (writes self.old.pen.mode (core_of self.old) cell) result (core_of self.new) }
     {
         let area = self.windows.here();
         let at = self.windows.cursor();
@@ -121,8 +113,7 @@ impl Controller {
 
     // Writes a character, with a mark or without.
     fn type_in(&mut self, code: u8, mark: Option<Mark>) -> Result<Strokes, DisplayFault>
-        ensures answer { result ≡ (types code mark (core_of self.old)).answer }
-        ensures core { core_of self.new ≡ (types code mark (core_of self.old)).core }
+        ensures { Does (types code mark (core_of self.old)) result (core_of self.new) }
     {
         let user = self.users.columns(code);
         self.write(cell_of(code, self.pen, user, mark))
@@ -130,8 +121,7 @@ impl Controller {
 
     // The host starts the macro.
     fn play(&mut self, voice: Voice, wait: u8, gap: u8) -> Result<Strokes, DisplayFault>
-        ensures answer { result ≡ (plays voice wait gap (core_of self.old)).answer }
-        ensures core { core_of self.new ≡ (plays voice wait gap (core_of self.old)).core }
+        ensures { Does (plays voice wait gap (core_of self.old)) result (core_of self.new) }
     {
         match voice {
             Voice::Host => undrawn(self.tape.play(wait, gap)),
@@ -140,8 +130,7 @@ impl Controller {
     }
 
     fn jump(&mut self, spot: Spot) -> Result<Strokes, DisplayFault>
-        ensures answer { result ≡ Ok no_strokes }
-        ensures core { core_of self.new ≡ jumps spot (core_of self.old) }
+        ensures { Does (quietly (jumps spot (core_of self.old))) result (core_of self.new) }
     {
         self.windows.jump(spot);
         Ok(NO_STROKES)
@@ -149,8 +138,7 @@ impl Controller {
 
     // Blanks the window's part of the cursor's row.
     fn clear_row(&mut self) -> Result<Strokes, DisplayFault>
-        ensures answer { result ≡ (effect Host ClearRow (core_of self.old)).answer }
-        ensures core { core_of self.new ≡ (effect Host ClearRow (core_of self.old)).core }
+        ensures { Does (effect Host ClearRow (core_of self.old)) result (core_of self.new) }
     {
         let row = self.windows.cursor().row;
         self.clear(Ink::BlankRow { row }, Spot::RowStart)
@@ -158,8 +146,7 @@ impl Controller {
 
     // Draws in the current window, and jumps.
     fn clear(&mut self, ink: Ink, spot: Spot) -> Result<Strokes, DisplayFault>
-        ensures answer { result ≡ (drawing (core_of self.old) (stroke (window (core_of self.old)) ink)).answer }
-        ensures core { core_of self.new ≡ jumps spot (core_of self.old) }
+        ensures { Does (drawing (jumps spot (core_of self.old)) (stroke (window (core_of self.old)) ink)) result (core_of self.new) }
     {
         let area = self.windows.here();
         self.windows.jump(spot);
@@ -170,8 +157,7 @@ impl Controller {
     }
 
     fn initialize(&mut self) -> Result<Strokes, DisplayFault>
-        ensures answer { result ≡ (effect Host Initialize (core_of self.old)).answer }
-        ensures core { core_of self.new ≡ (effect Host Initialize (core_of self.old)).core }
+        ensures { Does (effect Host Initialize (core_of self.old)) result (core_of self.new) }
     {
         *self = Controller::new(self.settings);
         Ok(Strokes {
@@ -184,8 +170,7 @@ impl Controller {
     }
 
     pub(crate) fn carry(&mut self, item: Item) -> Result<Strokes, DisplayFault>
-        ensures answer { result ≡ (effect item.voice item.command (core_of self.old)).answer }
-        ensures core { core_of self.new ≡ (effect item.voice item.command (core_of self.old)).core }
+        ensures { Does (effect item.voice item.command (core_of self.old)) result (core_of self.new) }
     {
         match item.command {
             Command::Character { code } => return self.type_in(code, None),

@@ -2,7 +2,7 @@
 ghost use Rattle.std.specs.Prelude.{◌≡◌};
 ghost use Rattle.state.specs.Core.{core_of};
 ghost use Rattle.state.specs.Effects.{one, strokes_of};
-ghost use Rattle.state.specs.Model.{obeyed, heeded, ended, ending, kept, overflows, reported, drawn_by, fault_of, Replies, Moves};
+ghost use Rattle.state.specs.Model.{obeyed, told, heeded, ended, ending, kept, overflows, reported, drawn_by, fault_of, Replies, Moves};
 
 use crate::controller::carry::NO_STROKES;
 use crate::controller::{Controller, HostReply, Reply, Strokes};
@@ -16,9 +16,19 @@ use terms::fault::{DisplayFault, Fault};
 fn is_heeded(item: Item) -> bool
     ensures { result ≡ heeded item.voice item.command }
 {
-    match (item.voice, item.command) {
-        (Voice::Host, Command::Select { on: _ }) => true,
-        _ => false,
+    matches!(
+        (item.voice, item.command),
+        (Voice::Host, Command::Select { .. })
+    )
+}
+
+// A fault as it is reported, with who spoke.
+fn told(voice: Voice, fault: DisplayFault) -> Fault
+    ensures { result ≡ told voice fault }
+{
+    match voice {
+        Voice::Host => Fault::Said { fault },
+        Voice::Macro => Fault::Played { fault },
     }
 }
 
@@ -32,19 +42,9 @@ fn reply(voice: Voice, selected: bool, answer: Result<Strokes, DisplayFault>) ->
             strokes,
             fault: None,
         },
-        Err(fault) if selected => match voice {
-            Voice::Host => Reply {
-                strokes: NO_STROKES,
-                fault: Some(Fault::Said { fault }),
-            },
-            Voice::Macro => Reply {
-                strokes: NO_STROKES,
-                fault: Some(Fault::Played { fault }),
-            },
-        },
-        Err(_) => Reply {
+        Err(fault) => Reply {
             strokes: NO_STROKES,
-            fault: None,
+            fault: selected.then(|| told(voice, fault)),
         },
     }
 }
@@ -87,10 +87,7 @@ impl Controller {
         if !self.selected {
             return None;
         }
-        match self.tape.store(byte) {
-            Some(fault) => Some(Fault::Said { fault }),
-            None => None,
-        }
+        self.tape.store(byte).map(|fault| Fault::Said { fault })
     }
 
     pub fn byte(&mut self, byte: u8) -> HostReply

@@ -3,16 +3,15 @@ ghost use Rattle.std.specs.Prelude.{◌≡◌};
 ghost use Rattle.state.specs.Core.{core_of};
 ghost use Rattle.state.specs.Lamps.{lamp_lit};
 ghost use Rattle.state.specs.Layouts.{cursor_of, window_area};
-ghost use Rattle.state.specs.Questions.{modes_of, user_of, macro_of, window_number};
+ghost use Rattle.state.specs.Questions.{modes_of, mode_numbers, user_of, macro_of};
 
 use crate::cell::user_bits;
 use crate::controller::Controller;
-use crate::moves::Cursor;
-use glass::area::Area;
-use reader::words::{Mode, Slot};
+use glass::area::{Area, Position};
+use reader::words::Mode;
 
 // The state that is neither glass, cursor, windows, user characters nor macro.
-#[derive(Clone, Copy)]
+#[derive(Clone, Copy, Debug, PartialEq, Eq)]
 pub struct Modes {
     pub mode: Mode,
     // the current window's number
@@ -28,17 +27,29 @@ pub struct Modes {
     pub brightness: u8,
 }
 
-fn number(window: Option<Slot>) -> u8
-    ensures { result ≡ window_number window }
-{
-    match window {
-        Some(slot) => slot.number(),
-        None => 0,
+impl Modes {
+    // All of them in their order, each by its number; 1 stands for yes.
+    pub fn numbers(self) -> [u8; 11]
+        ensures { result ≡ mode_numbers self }
+    {
+        [
+            u8::from(self.mode),
+            self.window,
+            u8::from(self.cursor),
+            u8::from(self.user),
+            u8::from(self.recording),
+            u8::from(self.playing),
+            u8::from(self.selected),
+            self.blink,
+            self.table,
+            self.set,
+            self.brightness,
+        ]
     }
 }
 
 impl Controller {
-    pub fn cursor(&self) -> Cursor
+    pub fn cursor(&self) -> Position
         ensures { result ≡ cursor_of (core_of self.now).layout }
     {
         self.windows.cursor()
@@ -55,10 +66,7 @@ impl Controller {
     pub fn user(&self, code: u8) -> Option<u64>
         ensures { result ≡ user_of (core_of self.now) code }
     {
-        match self.users.columns(code) {
-            Some(columns) => Some(user_bits(columns)),
-            None => None,
-        }
+        self.users.columns(code).map(user_bits)
     }
 
     // The macro's nth byte, counted from 1.
@@ -79,13 +87,13 @@ impl Controller {
     {
         Modes {
             mode: self.pen.mode,
-            window: number(self.windows.current()),
+            window: self.windows.current().map_or(0, u8::from),
             cursor: self.shown,
             user: self.pen.user,
             recording: self.tape.is_recording(),
             playing: self.tape.is_playing(),
             selected: self.selected,
-            blink: self.lamp.number(),
+            blink: u8::from(self.lamp),
             table: self.pen.table,
             set: self.pen.set,
             brightness: self.brightness,

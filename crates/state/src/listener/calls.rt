@@ -1,9 +1,8 @@
 // Bytes are heard: the host's, and the macro's under a guard.
 ghost use Rattle.std.specs.Prelude.{◌≡◌, is_some};
-ghost use Rattle.reader.specs.Steps.{step};
 ghost use Rattle.reader.specs.declared.words.Reading.TheVariants.{Rest};
 ghost use Rattle.state.specs.declared.listener.Voice.TheVariants.{Host, Macro};
-ghost use Rattle.state.specs.Heard.{heard_as};
+ghost use Rattle.state.specs.Heard.{Hears};
 ghost use Rattle.state.specs.Shorts.{GoesOn, awaited, mark_in};
 
 use crate::listener::{Item, Listener, Speaker, Voice};
@@ -35,8 +34,7 @@ impl<'a> Speaking<'a> {
 
 // Reads one byte; the item bears who speaks.
 fn hear(speaker: &Speaker, reading: &mut Reading, byte: u8) -> Result<Option<Item>, ReadFault>
-    ensures next { reading.new ≡ (step reading.old byte).next }
-    ensures item { result ≡ heard_as speaker.now.voice (step reading.old byte).outcome }
+    ensures { Hears speaker.now.voice reading.old byte result reading.new }
 {
     let Step { next, outcome } = reading.take(byte);
     *reading = next;
@@ -71,11 +69,7 @@ impl Listener {
     pub(crate) fn awaits_character(&self) -> bool
         ensures { result ≡ is_some (awaited self.now.reading) }
     {
-        match self.reading {
-            Reading::Rest => true,
-            Reading::MarkedN { mark: _ } => true,
-            _ => false,
-        }
+        matches!(self.reading, Reading::Rest | Reading::MarkedN { .. })
     }
 
     // The mark of the character that the next byte is.
@@ -113,20 +107,17 @@ impl Listener {
 
     // A byte of the host.
     pub(crate) fn heard(&mut self, byte: u8) -> Result<Option<Item>, ReadFault>
-        ensures next { self.new.reading ≡ (step self.old.reading byte).next }
-        ensures item { result ≡ heard_as Host (step self.old.reading byte).outcome }
+        ensures { Hears Host self.old.reading byte result self.new.reading }
     {
         hear(&self.speaker, &mut self.reading, byte)
     }
 
     // A byte of the macro. On every way out the host speaks again.
     pub(crate) fn played(&mut self, byte: u8) -> Result<Option<Item>, ReadFault>
-        ensures next { self.new.reading ≡ (step self.old.reading byte).next }
-        ensures item { result ≡ heard_as Macro (step self.old.reading byte).outcome }
+        ensures item { Hears Macro self.old.reading byte result self.new.reading }
         ensures host { self.new.speaker.voice ≡ Host }
     {
         let guard = Speaking::start(&mut self.speaker);
-        let item = hear(guard.speaker, &mut self.reading, byte)?;
-        Ok(item)
+        hear(guard.speaker, &mut self.reading, byte)
     }
 }

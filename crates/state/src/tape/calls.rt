@@ -23,35 +23,21 @@ impl Tape {
     pub(crate) fn is_recording(&self) -> bool
         ensures { result ≡ is_recording (reel_of self.now).current }
     {
-        match self.current {
-            Use::Recording => true,
-            _ => false,
-        }
+        self.current == Use::Recording
     }
 
     pub(crate) fn is_playing(&self) -> bool
         ensures { result ≡ is_playing (reel_of self.now).current }
     {
-        match self.current {
-            Use::Playing {
-                n: _,
-                m: _,
-                wait: _,
-                next: _,
-            } => true,
-            _ => false,
-        }
+        matches!(self.current, Use::Playing { .. })
     }
 
     fn set(&mut self, len: u8, current: Use)
         requires { lawful_reel current len ≡ true }
         ensures { reel_of self.new ≡ record { current = current; bytes = take len self.old.bytes } }
     {
-        *self = Tape {
-            bytes: self.bytes,
-            len,
-            current,
-        };
+        self.len = len;
+        self.current = current;
     }
 
     // Opens a recording, or closes it: its last two bytes are the pair that closes it.
@@ -72,13 +58,8 @@ impl Tape {
     {
         match self.current {
             Use::Recording if self.len < MOST => {
-                let mut bytes = self.bytes;
-                bytes[self.len as usize] = byte;
-                *self = Tape {
-                    bytes,
-                    len: self.len + 1,
-                    current: Use::Recording,
-                };
+                self.bytes[self.len as usize] = byte;
+                self.len += 1;
                 None
             }
             Use::Recording => {
@@ -98,15 +79,12 @@ impl Tape {
             Use::Recording => Err(DisplayFault::PlayRefused),
             Use::Blank => Err(DisplayFault::NoMacro),
             _ => {
-                self.set(
-                    self.len,
-                    Use::Playing {
-                        n,
-                        m,
-                        wait: 2 * n as u16,
-                        next: 0,
-                    },
-                );
+                self.current = Use::Playing {
+                    n,
+                    m,
+                    wait: 2 * n as u16,
+                    next: 0,
+                };
                 Ok(())
             }
         }
@@ -116,7 +94,7 @@ impl Tape {
         ensures { reel_of self.new ≡ stopped (reel_of self.old) }
     {
         if self.is_playing() {
-            self.set(self.len, Use::Stored);
+            self.current = Use::Stored;
         }
     }
 
@@ -129,40 +107,31 @@ impl Tape {
             return None;
         };
         if wait > 1 {
-            self.set(
-                self.len,
-                Use::Playing {
-                    n,
-                    m,
-                    wait: wait - 1,
-                    next,
-                },
-            );
+            self.current = Use::Playing {
+                n,
+                m,
+                wait: wait - 1,
+                next,
+            };
             return None;
         }
         let byte = self.bytes[next as usize];
         let pause = 2 * n as u16;
-        if next + 1 < self.len {
-            self.set(
-                self.len,
-                Use::Playing {
-                    n,
-                    m,
-                    wait: pause,
-                    next: next + 1,
-                },
-            );
+        self.current = if next + 1 < self.len {
+            Use::Playing {
+                n,
+                m,
+                wait: pause,
+                next: next + 1,
+            }
         } else {
-            self.set(
-                self.len,
-                Use::Playing {
-                    n,
-                    m,
-                    wait: 5 * m as u16 + pause,
-                    next: 0,
-                },
-            );
-        }
+            Use::Playing {
+                n,
+                m,
+                wait: 5 * m as u16 + pause,
+                next: 0,
+            }
+        };
         Some(byte)
     }
 

@@ -2,13 +2,13 @@
 ghost use Rattle.std.specs.Prelude.{◌≡◌, true};
 ghost use Rattle.glass.specs.Places.{holds};
 ghost use Rattle.state.specs.Slots.{area_of};
-ghost use Rattle.state.specs.Layouts.{layout, new_layout, here, at_spot, turning, cancelling, defining, going, window_area, cursor_of, stepped, jumped};
+ghost use Rattle.state.specs.Layouts.{Turns, layout, new_layout, here, at_spot, turning, cancelling, defining, going, window_area, cursor_of, stepped, jumped};
 ghost use Rattle.state.specs.Moves.{toward, target};
 
-use crate::moves::{Cursor, Spot, Way, target, toward};
+use crate::moves::{Spot, Way, target, toward};
 use crate::slots::{Slots, is_current};
 use crate::windows::Windows;
-use glass::area::{Area, WHOLE};
+use glass::area::{Area, Position, WHOLE};
 use glass::stroke::Ink;
 use reader::words::{Mode, Slot};
 use terms::fault::DisplayFault;
@@ -25,8 +25,7 @@ impl Windows {
                 fourth: None,
             },
             current: None,
-            column: WHOLE.x1,
-            row: WHOLE.y1,
+            cursor: WHOLE.home(),
         }
     }
 
@@ -36,13 +35,10 @@ impl Windows {
         self.slots.area(self.current)
     }
 
-    pub(crate) fn cursor(&self) -> Cursor
+    pub(crate) fn cursor(&self) -> Position
         ensures { result ≡ cursor_of (layout self.now) }
     {
-        Cursor {
-            column: self.column,
-            row: self.row,
-        }
+        self.cursor
     }
 
     pub(crate) fn current(&self) -> Option<Slot>
@@ -55,107 +51,80 @@ impl Windows {
     pub(crate) fn window(&self, n: u8) -> Option<Area>
         ensures { result ≡ window_area (layout self.now).slots n }
     {
-        match n {
-            0 => Some(WHOLE),
-            1 => self.slots.at(Slot::First),
-            2 => self.slots.at(Slot::Second),
-            3 => self.slots.at(Slot::Third),
-            4 => self.slots.at(Slot::Fourth),
+        match (n, Slot::try_from(n)) {
+            (0, _) => Some(WHOLE),
+            (_, Ok(slot)) => self.slots.at(slot),
             _ => None,
         }
     }
 
     // The cursor goes to a place of the current window.
-    fn go(&mut self, column: u8, row: u8)
-        requires { holds (here (layout self.old)) column row ≡ true }
-        ensures { layout self.new ≡ at_spot (layout self.old) column row }
+    fn go(&mut self, at: Position)
+        requires { holds (here (layout self.old)) at.column at.row ≡ true }
+        ensures { layout self.new ≡ at_spot (layout self.old) at.column at.row }
     {
-        *self = Windows {
-            slots: self.slots,
-            current: self.current,
-            column,
-            row,
-        };
+        self.cursor = at;
     }
 
     // One step of the cursor, and what it draws.
     pub(crate) fn step(&mut self, way: Way, mode: Mode) -> Option<Ink>
-        ensures ink { result ≡ (toward way mode (here (layout self.old)) self.old.column self.old.row).ink }
+        ensures ink { result ≡ (toward way mode (here (layout self.old)) self.old.cursor.column self.old.cursor.row).ink }
         ensures left { layout self.new ≡ stepped way mode (layout self.old) }
     {
-        let next = toward(way, mode, self.here(), self.column, self.row);
-        self.go(next.column, next.row);
+        let next = toward(way, mode, self.here(), self.cursor);
+        self.go(next.at);
         next.ink
     }
 
     pub(crate) fn jump(&mut self, spot: Spot)
         ensures { layout self.new ≡ jumped spot (layout self.old) }
     {
-        let next = target(spot, self.here(), self.row);
-        self.go(next.column, next.row);
+        self.go(target(spot, self.here(), self.cursor.row));
     }
 
     // Column x and row y of the window, counted from its corner.
     pub(crate) fn go_to(&mut self, x: u8, y: u8) -> Result<(), DisplayFault>
-        ensures answer { result ≡ (going x y (layout self.old)).answer }
-        ensures left { layout self.new ≡ (going x y (layout self.old)).left }
+        ensures { Turns (going x y (layout self.old)) result (layout self.new) }
     {
         let area = self.here();
-        let column = area.x1.saturating_add(x).saturating_sub(1);
-        let row = area.y1.saturating_add(y).saturating_sub(1);
-        if !area.holds(column, row) {
+        let at = Position {
+            column: area.x1.saturating_add(x).saturating_sub(1),
+            row: area.y1.saturating_add(y).saturating_sub(1),
+        };
+        if !area.holds(at) {
             return Err(DisplayFault::OutsideWindow);
         }
-        self.go(column, row);
+        self.go(at);
         Ok(())
     }
 
     pub(crate) fn turn(&mut self, window: Option<Slot>) -> Result<(), DisplayFault>
-        ensures answer { result ≡ (turning window (layout self.old)).answer }
-        ensures left { layout self.new ≡ (turning window (layout self.old)).left }
+        ensures { Turns (turning window (layout self.old)) result (layout self.new) }
     {
         if !self.slots.know(window) {
             return Err(DisplayFault::WindowUndefined);
         }
-        let here = self.slots.area(window);
-        *self = Windows {
-            slots: self.slots,
-            current: window,
-            column: here.x1,
-            row: here.y1,
-        };
+        self.current = window;
+        self.cursor = self.slots.area(window).home();
         Ok(())
     }
 
     pub(crate) fn cancel(&mut self, n: Slot) -> Result<(), DisplayFault>
-        ensures answer { result ≡ (cancelling n (layout self.old)).answer }
-        ensures left { layout self.new ≡ (cancelling n (layout self.old)).left }
+        ensures { Turns (cancelling n (layout self.old)) result (layout self.new) }
     {
         if self.slots.at(n).is_none() {
             return Err(DisplayFault::WindowUndefined);
         }
-        let slots = self.slots.with(n, None);
         if is_current(self.current, n) {
-            *self = Windows {
-                slots,
-                current: None,
-                column: WHOLE.x1,
-                row: WHOLE.y1,
-            };
-        } else {
-            *self = Windows {
-                slots,
-                current: self.current,
-                column: self.column,
-                row: self.row,
-            };
+            self.current = None;
+            self.cursor = WHOLE.home();
         }
+        self.slots = self.slots.with(n, None);
         Ok(())
     }
 
     pub(crate) fn define(&mut self, n: Slot, area: Area) -> Result<(), DisplayFault>
-        ensures answer { result ≡ (defining n area (layout self.old)).answer }
-        ensures left { layout self.new ≡ (defining n area (layout self.old)).left }
+        ensures { Turns (defining n area (layout self.old)) result (layout self.new) }
     {
         if !area.is_lawful() {
             return Ok(());
@@ -166,13 +135,9 @@ impl Windows {
         if !self.slots.leave_clear(area) {
             return Err(DisplayFault::WindowTouches);
         }
-        let slots = self.slots.with(n, Some(area));
-        *self = Windows {
-            slots,
-            current: Some(n),
-            column: area.x1,
-            row: area.y1,
-        };
+        self.slots = self.slots.with(n, Some(area));
+        self.current = Some(n);
+        self.cursor = area.home();
         Ok(())
     }
 }
