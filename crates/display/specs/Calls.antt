@@ -2,7 +2,7 @@
 use Rattle.std.specs.Prelude.{◌≡◌, ℕ, ◌+◌, ◌-◌, ◌*◌, cond, List, [], ◌∷◌, ◌++◌, map, length, Some, None, Ok, Err, Option, Result, MatchOption, nat_lt, slice_set}
 use Rattle.list.specs.declared.list.BoundedList.{BoundedList}
 use Rattle.list.specs.Entries.{entries, places, capacity}
-use Rattle.panel.specs.Laws.{Reached}
+use Rattle.panel.specs.Laws.{Make, Reached}
 use Rattle.terms.specs.declared.fault.Fault.{Fault}
 use Rattle.terms.specs.Presets.{Preset}
 use Rattle.state.specs.Core.{core_of}
@@ -15,9 +15,9 @@ use Rattle.display.specs.declared.words.FeedRefusal.TheVariants.{LongPiece, FewP
 use Rattle.display.specs.declared.display.Display.{Display}
 use Rattle.display.specs.Answers.{answer}
 
--- a display's state, given what its panel's cells are
-abbrev pub view : {P : Type 0} → (P → List ℕ) → Display P → State
-view cells d = record { core = core_of d.controller; glass = cells d.panel }
+-- a display's state, given what its panel means
+abbrev pub view : {P : Type 0} → Make P → Display P → State
+view make d = record { core = core_of d.controller; glass = make.cells d.panel }
 
 -- how many fault places a piece needs
 abbrev pub room_needed : List ℕ → ℕ
@@ -41,18 +41,24 @@ pub record Grown (l : BoundedList Fault) (given : List Fault) (l' : BoundedList 
   pub places : places l' ≡ laid (places l) (length (entries l)) given
   pub lent : l'.slots.ghost_name ≡ l.slots.ghost_name
 
-module _ {P : Type 0} (cells : P → List ℕ) (puts : P → ℕ → ℕ → P → Type 0) (paints : P → P → Type 0) where
+module _ {P : Type 0} (make : Make P) where
   -- a new display of these settings; the panel was reached by puts alone
   pub record SwitchesOn (settings : Preset) (p : P) (d : Display P) : Type 0 where
-    pub state : view cells d ≡ new settings
-    pub reached : Reached puts p d.panel
+    pub state : view make d ≡ new settings
+    pub reached : Reached make.puts p d.panel
+
+  -- one byte is given, and its faults to the list; the panel is reached by puts alone
+  pub record Takes (d : Display P) (b : ℕ) (l : BoundedList Fault) (d' : Display P) (l' : BoundedList Fault) : Type 0 where
+    pub state : view make d' ≡ next (view make d) (byte b)
+    pub grown : Grown l (reply (byte b) (view make d)).faults l'
+    pub reached : Reached make.puts d.panel d'.panel
 
   -- the piece is accepted: its bytes are given to the display one by one, and its faults to the list
   pub record Accepts (d : Display P) (piece : List ℕ) (l : BoundedList Fault) (r : Result ℕ FeedRefusal) (d' : Display P) (l' : BoundedList Fault) : Type 0 where
-    pub state : view cells d' ≡ after (view cells d) (map byte piece)
-    pub grown : Grown l (faults (view cells d) (map byte piece)) l'
-    pub answers : r ≡ Ok (length (faults (view cells d) (map byte piece)))
-    pub reached : Reached puts d.panel d'.panel
+    pub state : view make d' ≡ after (view make d) (map byte piece)
+    pub grown : Grown l (faults (view make d) (map byte piece)) l'
+    pub answers : r ≡ Ok (length (faults (view make d) (map byte piece)))
+    pub reached : Reached make.puts d.panel d'.panel
 
   -- the piece is refused: everything is as it was
   pub record Refuses (e : FeedRefusal) (d : Display P) (l : BoundedList Fault) (r : Result ℕ FeedRefusal) (d' : Display P) (l' : BoundedList Fault) : Type 0 where
@@ -64,17 +70,17 @@ module _ {P : Type 0} (cells : P → List ℕ) (puts : P → ℕ → ℕ → P �
   Feeds d piece l r d' l' = MatchOption (feed_cause piece l) (Accepts d piece l r d' l') (λ e. Refuses e d l r d' l')
 
   pub record Ticks (d : Display P) (r : Option Fault) (d' : Display P) : Type 0 where
-    pub state : view cells d' ≡ next (view cells d) tick
-    pub fault : fault_of r ≡ (reply tick (view cells d)).faults
-    pub reached : Reached puts d.panel d'.panel
+    pub state : view make d' ≡ next (view make d) tick
+    pub fault : fault_of r ≡ (reply tick (view make d)).faults
+    pub reached : Reached make.puts d.panel d'.panel
 
   -- the panel's own `painted`, once
   pub record Paints (d d' : Display P) : Type 0 where
-    pub panel : paints d.panel d'.panel
+    pub panel : make.paints d.panel d'.panel
     pub controller : d'.controller ≡ d.controller
 
   abbrev pub Asks : Display P → Question → Result Answer AskRefusal → Type 0
-  Asks d q r = r ≡ answer (view cells d) q
+  Asks d q r = r ≡ answer (view make d) q
 
   abbrev pub SwitchesOff : Display P → P → Type 0
   SwitchesOff d p = p ≡ d.panel

@@ -2,11 +2,10 @@
 ghost use Rattle.std.specs.Prelude.{◌≡◌};
 ghost use Rattle.display.specs.Numbers.{feed_refusal, ask_refusal};
 
-use glass::area::Area;
+use glass::area::{Area, Position};
 use state::controller::questions::Modes;
-use state::moves::Cursor;
 
-#[derive(Clone, Copy)]
+#[derive(Clone, Copy, Debug, PartialEq, Eq)]
 pub enum Question {
     Cell { column: u8, row: u8 },
     Cursor,
@@ -19,10 +18,10 @@ pub enum Question {
 }
 
 // `None` is for what is undefined or off its table.
-#[derive(Clone, Copy)]
+#[derive(Clone, Copy, Debug, PartialEq, Eq)]
 pub enum Answer {
     Cell { cell: u64 },
-    Cursor { cursor: Cursor },
+    Cursor { cursor: Position },
     Window { area: Option<Area> },
     User { bits: Option<u64> },
     Macro { byte: Option<u8> },
@@ -30,34 +29,31 @@ pub enum Answer {
     Modes { modes: Modes },
 }
 
-#[derive(Clone, Copy)]
+#[derive(Clone, Copy, Debug, PartialEq, Eq)]
 pub enum FeedRefusal {
-    LongPiece,
-    FewPlaces,
+    LongPiece = 21,
+    FewPlaces = 22,
 }
 
-#[derive(Clone, Copy)]
+#[derive(Clone, Copy, Debug, PartialEq, Eq)]
 pub enum AskRefusal {
-    OffGlass,
+    OffGlass = 31,
 }
 
-impl FeedRefusal {
-    pub fn number(self) -> u8
-        ensures { result ≡ feed_refusal self }
-    {
-        match self {
-            FeedRefusal::LongPiece => 21,
-            FeedRefusal::FewPlaces => 22,
-        }
+// The number by which it is told.
+impl From<FeedRefusal> for u8 {
+    ghost from_gives = { λ refusal number. number ≡ feed_refusal refusal };
+
+    fn from(refusal: FeedRefusal) -> u8 {
+        refusal as u8
     }
 }
 
-impl AskRefusal {
-    pub fn number(self) -> u8
-        ensures { result ≡ ask_refusal self }
-    {
-        match self {
-            AskRefusal::OffGlass => 31,
-        }
+// The number by which it is told.
+impl From<AskRefusal> for u8 {
+    ghost from_gives = { λ refusal number. number ≡ ask_refusal refusal };
+
+    fn from(refusal: AskRefusal) -> u8 {
+        refusal as u8
     }
 }

@@ -5,7 +5,7 @@ use Rattle.std.proofs.lemmas.Bool.{and_parts, leb-true, ltb-true, eqb-true}
 use Rattle.std.proofs.lemmas.Bool.Decides.{nat_tests}
 use Rattle.glass.specs.declared.area.Area.{Area}
 use Rattle.glass.specs.Places.{holds, whole, lawful, apart}
-use Rattle.panel.specs.Laws.{Laws}
+use Rattle.panel.specs.Laws.{Make, Laws}
 use Rattle.state.specs.declared.controller.Controller.{Controller}
 use Rattle.state.specs.declared.tape.Tape.{Tape}
 use Rattle.state.specs.declared.tape.Use.{Use}
@@ -62,9 +62,9 @@ bounded c =
       sharing = λ n m a b d p q. none_shared a b (both_clear _ _ a b (w.sharing n m d) p q);
     }
 
-module _ {P : Type 0} (cells : P → List ℕ) (puts : P → ℕ → ℕ → P → Type 0) (paints : P → P → Type 0) (laws : Laws cells puts paints) where
-  pub bounds : Bounds cells puts paints
+module _ {P : Type 0} (make : Make P) (laws : Laws make) where
+  pub bounds : Bounds make
   bounds = record {
     displays = λ d. bounded d.controller;
-    lives = λ p es fs d life. subst Bounded (ap (λ s. s.core) (life_run cells puts paints laws p es fs d life).state) (bounded d.controller);
+    lives = λ p es fs d life. subst Bounded (ap (λ s. s.core) (life_run make laws p es fs d life).state) (bounded d.controller);
   }

@@ -1,4 +1,5 @@
 -- A question outside its table is answered alike by all displays.
+use Rattle.panel.specs.Laws.{Make}
 use Rattle.std.proofs.Common.{◌≡◌, ℕ, ◌-◌, ◌<◌, ◌≤◌, true, false, ◌&&◌, ltb, leb, ◌⊎◌, List, length, get_or, take, Some, None, Ok, sym, refl, ap, ◌∙◌, subst, inl, inr, ⊎_elim, arith}
 use Rattle.std.proofs.lemmas.List.{ext_get_or, get_or_past, length-take}
 use Rattle.std.proofs.lemmas.Bool.{cases_lt, cases_eq, cond-true, cond-false, le-ltb, lt-leb, leb-true, and_parts, and_right}
@@ -54,43 +55,43 @@ macro_short (Playing a b w i) bs k n h l m =
 macro_bounded : (c : Controller) (n : ℕ) → 81 ≤ n → macro_of (core_of c) n ≡ None
 macro_bounded c n h = macro_short c.tape.current (take c.tape.len c.tape.bytes) c.tape.len n c.tape.bounds (take_short c.tape.len c.tape.bytes) h
 
-module _ {P Q : Type 0} (cells : P → List ℕ) (cells' : Q → List ℕ) (a : Display P) (b : Display Q) where
-  off : (x y : ℕ) → holds whole x y ≡ false → AgreeOn cells cells' a b (Cell x y)
+module _ {P Q : Type 0} (make : Make P) (make' : Make Q) (a : Display P) (b : Display Q) where
+  off : (x y : ℕ) → holds whole x y ≡ false → AgreeOn make make' a b (Cell x y)
   off x y h =
       let e = cond-false (holds whole x y) (Some (place x y)) None h in
-      ap (cell_at (cells a.panel)) e ∙ sym (ap (cell_at (cells' b.panel)) e)
+      ap (cell_at (make.cells a.panel)) e ∙ sym (ap (cell_at (make'.cells b.panel)) e)
 
-  pub row_all : (y : ℕ) → ((x : ℕ) → 1 ≤ x → x < 21 → AgreeOn cells cells' a b (Cell x y)) → (x : ℕ) → AgreeOn cells cells' a b (Cell x y)
+  pub row_all : (y : ℕ) → ((x : ℕ) → 1 ≤ x → x < 21 → AgreeOn make make' a b (Cell x y)) → (x : ℕ) → AgreeOn make make' a b (Cell x y)
   row_all y h x =
       ⊎_elim (λ lt. off x y (beside x y (inl lt)))
       (λ ge. ⊎_elim (λ lt. h x ge lt) (λ far. off x y (beside x y (inr far))) (cases_lt x 21))
       (cases_lt x 1)
 
-  pub glass_all : ((x : ℕ) → AgreeOn cells cells' a b (Cell x 1)) → ((x : ℕ) → AgreeOn cells cells' a b (Cell x 2)) → AgreeOnGlass cells cells' a b
+  pub glass_all : ((x : ℕ) → AgreeOn make make' a b (Cell x 1)) → ((x : ℕ) → AgreeOn make make' a b (Cell x 2)) → AgreeOnGlass make make' a b
   glass_all h k x y =
-      ⊎_elim (λ e. subst (λ n. AgreeOn cells cells' a b (Cell x n)) (sym e) (h x))
-      (λ ne. ⊎_elim (λ e. subst (λ n. AgreeOn cells cells' a b (Cell x n)) (sym e) (k x)) (λ no. off x y (off_rows x y ne no)) (cases_eq y 2))
+      ⊎_elim (λ e. subst (λ n. AgreeOn make make' a b (Cell x n)) (sym e) (h x))
+      (λ ne. ⊎_elim (λ e. subst (λ n. AgreeOn make make' a b (Cell x n)) (sym e) (k x)) (λ no. off x y (off_rows x y ne no)) (cases_eq y 2))
       (cases_eq y 1)
 
-  pub windows_all : ((n : ℕ) → n < 5 → AgreeOn cells cells' a b (Window n)) → AgreeOnWindows cells cells' a b
+  pub windows_all : ((n : ℕ) → n < 5 → AgreeOn make make' a b (Window n)) → AgreeOnWindows make make' a b
   windows_all h n =
       ⊎_elim (λ lt. h n lt)
       (λ ge. ap (λ o. Ok (say.Window o)) (window_bounded a.controller.windows.slots n ge ∙ sym (window_bounded b.controller.windows.slots n ge)))
       (cases_lt n 5)
 
-  pub users_all : ((n : ℕ) → n < 256 → AgreeOn cells cells' a b (User n)) → AgreeOnUsers cells cells' a b
+  pub users_all : ((n : ℕ) → n < 256 → AgreeOn make make' a b (User n)) → AgreeOnUsers make make' a b
   users_all h n =
       ⊎_elim (λ lt. h n lt)
       (λ ge. ap (λ o. Ok (say.User o)) (user_bounded a.controller n ge ∙ sym (user_bounded b.controller n ge)))
       (cases_lt n 256)
 
-  pub macro_all : ((n : ℕ) → n < 81 → AgreeOn cells cells' a b (Macro n)) → AgreeOnMacro cells cells' a b
+  pub macro_all : ((n : ℕ) → n < 81 → AgreeOn make make' a b (Macro n)) → AgreeOnMacro make make' a b
   macro_all h n =
       ⊎_elim (λ lt. h n lt)
       (λ ge. ap (λ o. Ok (say.Macro o)) (macro_bounded a.controller n ge ∙ sym (macro_bounded b.controller n ge)))
       (cases_lt n 81)
 
-  pub from_parts : AgreeInParts cells cells' a b → Agree cells cells' a b
+  pub from_parts : AgreeInParts make make' a b → Agree make make' a b
   from_parts h (Cell x y) = h.0 x y
   from_parts h (Window n) = h.1.0 n
   from_parts h (User n) = h.1.1 n
@@ -99,14 +100,14 @@ module _ {P Q : Type 0} (cells : P → List ℕ) (cells' : Q → List ℕ) (a : 
   from_parts h Lamp = h.2.1
   from_parts h Modes = h.2.2
 
-  pub to_parts : Agree cells cells' a b → AgreeInParts cells cells' a b
+  pub to_parts : Agree make make' a b → AgreeInParts make make' a b
   to_parts h = (λ x y. h (Cell x y), (λ n. h (Window n), λ n. h (User n), λ n. h (Macro n)), (h Cursor, h Lamp, h Modes))
 
   -- and then the forty cells are the same
-  pub same_cells : length (cells a.panel) ≡ 40 → length (cells' b.panel) ≡ 40 → Agree cells cells' a b → cells a.panel ≡ cells' b.panel
+  pub same_cells : length (make.cells a.panel) ≡ 40 → length (make'.cells b.panel) ≡ 40 → Agree make make' a b → make.cells a.panel ≡ make'.cells b.panel
   same_cells l l' h =
-      let f = cells a.panel in
-      let g = cells' b.panel in
+      let f = make.cells a.panel in
+      let g = make'.cells b.panel in
       ext_get_or 0 f g (l ∙ sym l')
       (λ k lt.
       let on : holds whole (column k) (line k) ≡ true = whole_holds k (omega arith) in

@@ -5,7 +5,7 @@ use Rattle.std.proofs.lemmas.Bool.{cond-true, cond-false}
 use Rattle.glass.specs.Places.{holds, whole, inside, place}
 use Rattle.list.specs.declared.list.BoundedList.{BoundedList}
 use Rattle.list.specs.Entries.{entries}
-use Rattle.panel.specs.Laws.{Laws}
+use Rattle.panel.specs.Laws.{Make, Laws}
 use Rattle.panel.proofs.Glass.{inside_within}
 use Rattle.terms.specs.declared.fault.Fault.{Fault}
 use Rattle.terms.specs.Presets.{Preset}
@@ -38,39 +38,39 @@ more s t u es es' fs fs' a b = record {
   given = ap (λ x. fs ++ x) (b.given ∙ ap (λ x. faults x es') a.state) ∙ ap (λ x. x ++ faults (after s es) es') a.given ∙ sym (faults-append s es es');
 }
 
-module _ {P : Type 0} (cells : P → List ℕ) (puts : P → ℕ → ℕ → P → Type 0) (paints : P → P → Type 0) (laws : Laws cells puts paints) where
+module _ {P : Type 0} (make : Make P) (laws : Laws make) where
   feeds_run : (o : Option FeedRefusal) (d d' : Display P) (given : List Fault) (piece : List ℕ) (l l' : BoundedList Fault) (r : Result ℕ FeedRefusal) →
-      MatchOption o (Accepts cells puts paints d piece l r d' l') (λ e. Refuses cells puts paints e d l r d' l') → entries l' ≡ entries l ++ given →
-      Run (view cells d) (accepted r piece) given (view cells d')
+      MatchOption o (Accepts make d piece l r d' l') (λ e. Refuses make e d l r d' l') → entries l' ≡ entries l ++ given →
+      Run (view make d) (accepted r piece) given (view make d')
   feeds_run None d d' given piece l l' r h e = record {
-    state = h.state ∙ ap (λ x. after (view cells d) (accepted x piece)) (sym h.answers);
-    given = append_cancel_left (entries l) given (faults (view cells d) (map byte piece)) (sym e ∙ h.grown.list) ∙ ap (λ x. faults (view cells d) (accepted x piece)) (sym h.answers);
+    state = h.state ∙ ap (λ x. after (view make d) (accepted x piece)) (sym h.answers);
+    given = append_cancel_left (entries l) given (faults (view make d) (map byte piece)) (sym e ∙ h.grown.list) ∙ ap (λ x. faults (view make d) (accepted x piece)) (sym h.answers);
   }
   feeds_run (Some x) d d' given piece l l' r h e = record {
-    state = ap (view cells) h.display ∙ ap (λ x. after (view cells d) (accepted x piece)) (sym h.answers);
-    given = append_cancel_left (entries l) given [] (sym e ∙ ap entries h.list ∙ sym (append-nil (entries l))) ∙ ap (λ x. faults (view cells d) (accepted x piece)) (sym h.answers);
+    state = ap (view make) h.display ∙ ap (λ x. after (view make d) (accepted x piece)) (sym h.answers);
+    given = append_cancel_left (entries l) given [] (sym e ∙ ap entries h.list ∙ sym (append-nil (entries l))) ∙ ap (λ x. faults (view make d) (accepted x piece)) (sym h.answers);
   }
 
-  calls_run : (d d' : Display P) (es : List Event) (fs : List Fault) → Calls cells puts paints d es fs d' → Run (view cells d) es fs (view cells d')
+  calls_run : (d d' : Display P) (es : List Event) (fs : List Fault) → Calls make d es fs d' → Run (view make d) es fs (view make d')
   calls_run d d' es fs none = record { state = refl; given = refl }
   calls_run d d' es fs (fed {es = es₁} {fs = fs₁} {d₁ = d₁} given piece l l' r before h e) =
-      more (view cells d) (view cells d₁) (view cells d') es₁ (accepted r piece) fs₁ given (calls_run d d₁ es₁ fs₁ before) (feeds_run (feed_cause piece l) d₁ d' given piece l l' r h e)
+      more (view make d) (view make d₁) (view make d') es₁ (accepted r piece) fs₁ given (calls_run d d₁ es₁ fs₁ before) (feeds_run (feed_cause piece l) d₁ d' given piece l l' r h e)
   calls_run d d' es fs (ticked {es = es₁} {fs = fs₁} {d₁ = d₁} r before h) =
-      more (view cells d) (view cells d₁) (view cells d') es₁ (tick ∷ []) fs₁ (fault_of r) (calls_run d d₁ es₁ fs₁ before)
-      (record { state = h.state; given = h.fault ∙ sym (append-nil (reply tick (view cells d₁)).faults) })
+      more (view make d) (view make d₁) (view make d') es₁ (tick ∷ []) fs₁ (fault_of r) (calls_run d d₁ es₁ fs₁ before)
+      (record { state = h.state; given = h.fault ∙ sym (append-nil (reply tick (view make d₁)).faults) })
   calls_run d d' es fs (painted {d₁ = d₁} before h) =
       let r = calls_run d d₁ es fs before in
-      record { state = state_path (view cells d') (view cells d₁) (ap core_of h.controller) (laws.painting d₁.panel d'.panel h.panel) ∙ r.state; given = r.given }
+      record { state = state_path (view make d') (view make d₁) (ap core_of h.controller) (laws.painting d₁.panel d'.panel h.panel) ∙ r.state; given = r.given }
   calls_run d d' es fs (asked q r before h) = calls_run d d' es fs before
 
-  pub life_run : (p : Preset) (es : List Event) (fs : List Fault) (d : Display P) → Life cells puts paints p es fs d → Run (new p) es fs (view cells d)
+  pub life_run : (p : Preset) (es : List Event) (fs : List Fault) (d : Display P) → Life make p es fs d → Run (new p) es fs (view make d)
   life_run p es fs d life =
       let r = calls_run life.first d es fs life.calls in
       record { state = r.state ∙ ap (λ x. after x es) life.on.state; given = r.given ∙ ap (λ x. faults x es) life.on.state }
 
   -- a run that has come to s shows what comes after
-  shows : (p : Preset) (es ps : List Event) (fs : List Fault) (d : Display P) (s : State) → after (new p) es ≡ s → Run (new p) (es ++ ps) fs (view cells d) →
-      Shows cells puts paints s (faults (new p) es) ps fs d
+  shows : (p : Preset) (es ps : List Event) (fs : List Fault) (d : Display P) (s : State) → after (new p) es ≡ s → Run (new p) (es ++ ps) fs (view make d) →
+      Shows make s (faults (new p) es) ps fs d
   shows p es ps fs d s at r =
       let state = r.state ∙ after-append (new p) es ps ∙ ap (λ x. after x ps) at in
       record {
@@ -80,13 +80,13 @@ module _ {P : Type 0} (cells : P → List ℕ) (puts : P → ℕ → ℕ → P �
         given = r.given ∙ faults-append (new p) es ps ∙ ap (λ x. faults (new p) es ++ faults x ps) at;
       }
 
-  pub shown : Shown cells puts paints
+  pub shown : Shown make
   shown p es fs d life = shows p [] es fs d (new p) refl (life_run p es fs d life)
 
-  pub recalled : Recalled cells puts paints
+  pub recalled : Recalled make
   recalled p es rs ps fs d life bytes =
       shows p (es ++ rs) ps fs d (new p) (recalls p es rs bytes)
-      (subst (λ x. Run (new p) x fs (view cells d)) (sym (append_assoc es rs ps)) (life_run p (es ++ (rs ++ ps)) fs d life))
+      (subst (λ x. Run (new p) x fs (view make d)) (sym (append_assoc es rs ps)) (life_run p (es ++ (rs ++ ps)) fs d life))
 
 -- answers on what is alike
 cell_alike : (s t : State) → Alike s t → (x y : ℕ) (b c : Bool) → holds whole x y ≡ b → inside (window s.core) x y ≡ c → (Outside s.core (Cell x y) → ⊥) →
@@ -111,11 +111,11 @@ answers_alike s t al Lamp out = ap (λ c. answer (record { core = c; glass = [] 
 answers_alike s t al Modes out = ap (λ c. answer (record { core = c; glass = [] }) Modes) al.core
 
 module _ {P Q : Type 0}
-    (cells : P → List ℕ) (puts : P → ℕ → ℕ → P → Type 0) (paints : P → P → Type 0) (laws : Laws cells puts paints)
-    (cells' : Q → List ℕ) (puts' : Q → ℕ → ℕ → Q → Type 0) (paints' : Q → Q → Type 0) (laws' : Laws cells' puts' paints') where
+    (make : Make P) (laws : Laws make)
+    (make' : Make Q) (laws' : Laws make') where
   -- two displays that show the same
   both : (s : State) (hs hs' fs fs' : List Fault) (es : List Event) (a : Display P) (b : Display Q) →
-      Shows cells puts paints s hs es fs a → Shows cells' puts' paints' s hs' es fs' b → Same cells puts paints cells' puts' paints' a b hs hs' fs fs'
+      Shows make s hs es fs a → Shows make' s hs' es fs' b → Same make make' a b hs hs' fs fs'
   both s hs hs' fs fs' es a b x y = record {
     glass = x.glass ∙ sym y.glass;
     answers = λ q r r' h h'. x.answers q r h ∙ sym (y.answers q r' h');
@@ -124,47 +124,47 @@ module _ {P Q : Type 0}
     right = y.given;
   }
 
-  twins : Twins cells puts paints cells' puts' paints'
-  twins p es fs fs' a b la lb = both (new p) [] [] fs fs' es a b (shown cells puts paints laws p es fs a la) (shown cells' puts' paints' laws' p es fs' b lb)
+  twins : Twins make make'
+  twins p es fs fs' a b la lb = both (new p) [] [] fs fs' es a b (shown make laws p es fs a la) (shown make' laws' p es fs' b lb)
 
-  rejoined : Rejoined cells puts paints cells' puts' paints'
+  rejoined : Rejoined make make'
   rejoined p es es' rs rs' ps fs fs' a b la lb ra rb =
       both (new p) (faults (new p) (es ++ rs)) (faults (new p) (es' ++ rs')) fs fs' ps a b
-      (recalled cells puts paints laws p es rs ps fs a la ra) (recalled cells' puts' paints' laws' p es' rs' ps fs' b lb rb)
+      (recalled make laws p es rs ps fs a la ra) (recalled make' laws' p es' rs' ps fs' b lb rb)
 
-  confined_lives : ConfinedLives cells puts paints cells' puts' paints'
+  confined_lives : ConfinedLives make make'
   confined_lives p p' es es' ps fs fs' a b la lb al quiet =
       let s = after (new p) es in
       let t = after (new p') es' in
-      let ra = life_run cells puts paints laws p (es ++ ps) fs a la in
-      let rb = life_run cells' puts' paints' laws' p' (es' ++ ps) fs' b lb in
-      let ea : view cells a ≡ after s ps = ra.state ∙ after-append (new p) es ps in
-      let eb : view cells' b ≡ after t ps = rb.state ∙ after-append (new p') es' ps in
+      let ra = life_run make laws p (es ++ ps) fs a la in
+      let rb = life_run make' laws' p' (es' ++ ps) fs' b lb in
+      let ea : view make a ≡ after s ps = ra.state ∙ after-append (new p) es ps in
+      let eb : view make' b ≡ after t ps = rb.state ∙ after-append (new p') es' ps in
       let k = confined s t ps (after-length (new p) es ∙ sym (after-length (new p') es')) al quiet in
-      let alike = subst (λ x. Alike (view cells a) x) (sym eb) (subst (λ x. Alike x (after t ps)) (sym ea) k.alike) in
+      let alike = subst (λ x. Alike (view make a) x) (sym eb) (subst (λ x. Alike x (after t ps)) (sym ea) k.alike) in
       record {
         alike = alike;
         left = subst (Keeps s) (sym ea) k.left;
         right = subst (Keeps t) (sym eb) k.right;
-        answers = λ q r r' out h h'. h ∙ answers_alike (view cells a) (view cells' b) alike q out ∙ sym h';
+        answers = λ q r r' out h h'. h ∙ answers_alike (view make a) (view make' b) alike q out ∙ sym h';
         given = ra.given ∙ faults-append (new p) es ps;
         given' = rb.given ∙ faults-append (new p') es' ps ∙ ap (λ x. faults (new p') es' ++ x) (sym k.given);
       }
 
-  pub history : History cells puts paints cells' puts' paints'
+  pub history : History make make'
   history = record {
-    shown = shown cells puts paints laws;
-    shown' = shown cells' puts' paints' laws';
+    shown = shown make laws;
+    shown' = shown make' laws';
     twins = twins;
-    recalled = recalled cells puts paints laws;
-    recalled' = recalled cells' puts' paints' laws';
+    recalled = recalled make laws;
+    recalled' = recalled make' laws';
     rejoined = rejoined;
     confined = confined_lives;
   }
 
   -- what twins show, for one that compares them
   pub told : (a : Display P) (b : Display Q) (fs fs' : List Fault) (settings : Preset) (es : List Event) →
-      Life cells puts paints settings es fs a → Life cells' puts' paints' settings es fs' b → Agree cells cells' a b × (fs ≡ fs')
+      Life make settings es fs a → Life make' settings es fs' b → Agree make make' a b × (fs ≡ fs')
   told a b fs fs' settings es la lb =
       let w = twins settings es fs fs' a b la lb in
       (λ q. w.answers q _ _ refl refl, w.left ∙ sym w.right)

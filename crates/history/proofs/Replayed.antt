@@ -1,4 +1,5 @@
 -- One happening more in a life.
+use Rattle.panel.specs.Laws.{Make}
 use Rattle.std.proofs.Common.{◌≡◌, ℕ, ◌+◌, ◌<◌, ◌≤◌, ltb, List, [], ◌∷◌, ◌++◌, map, length, get_or, take, set, Some, None, Option, Result, sym, refl, ap, ◌∙◌, subst, subst₂, append_assoc, arith}
 use Rattle.std.proofs.lemmas.List.{append-nil, map_more, length-set, length-take}
 use Rattle.std.proofs.lemmas.Option.{MatchOption-at_none}
@@ -31,49 +32,49 @@ both (x ∷ []) h = refl
 both (x ∷ y ∷ []) h = refl
 both (x ∷ y ∷ z ∷ zs) h = absurd (omega arith)
 
-module _ {P : Type 0} (cells : P → List ℕ) (puts : P → ℕ → ℕ → P → Type 0) (paints : P → P → Type 0) where
-  calls-append : (d d₁ d₂ : Display P) (es es' : List Event) (fs fs' : List Fault) → Calls cells puts paints d es fs d₁ → Calls cells puts paints d₁ es' fs' d₂ →
-      Calls cells puts paints d (es ++ es') (fs ++ fs') d₂
+module _ {P : Type 0} (make : Make P) where
+  calls-append : (d d₁ d₂ : Display P) (es es' : List Event) (fs fs' : List Fault) → Calls make d es fs d₁ → Calls make d₁ es' fs' d₂ →
+      Calls make d (es ++ es') (fs ++ fs') d₂
   calls-append d d₁ d₂ es es' fs fs' before none =
-      subst₂ (λ x y. Calls cells puts paints d x y d₁) (sym (append-nil es)) (sym (append-nil fs)) before
+      subst₂ (λ x y. Calls make d x y d₁) (sym (append-nil es)) (sym (append-nil fs)) before
   calls-append d d₁ d₂ es es' fs fs' before (fed {es = es₁} {fs = fs₁} {d₁ = d₃} given piece l l' r later h e) =
-      subst₂ (λ x y. Calls cells puts paints d x y d₂) (append_assoc es es₁ (accepted r piece)) (append_assoc fs fs₁ given)
+      subst₂ (λ x y. Calls make d x y d₂) (append_assoc es es₁ (accepted r piece)) (append_assoc fs fs₁ given)
       (fed given piece l l' r (calls-append d d₁ d₃ es es₁ fs fs₁ before later) h e)
   calls-append d d₁ d₂ es es' fs fs' before (ticked {es = es₁} {fs = fs₁} {d₁ = d₃} r later h) =
-      subst₂ (λ x y. Calls cells puts paints d x y d₂) (append_assoc es es₁ (tick ∷ [])) (append_assoc fs fs₁ (fault_of r))
+      subst₂ (λ x y. Calls make d x y d₂) (append_assoc es es₁ (tick ∷ [])) (append_assoc fs fs₁ (fault_of r))
       (ticked r (calls-append d d₁ d₃ es es₁ fs fs₁ before later) h)
   calls-append d d₁ d₂ es es' fs fs' before (painted {d₁ = d₃} later h) = painted (calls-append d d₁ d₃ es es' fs fs' before later) h
   calls-append d d₁ d₂ es es' fs fs' before (asked q r later h) = asked q r (calls-append d d₁ d₂ es es' fs fs' before later) h
 
-  pub happens_tick : (d d' : Display P) (r : Option Fault) (hs all : List Fault) → Ticks cells puts paints d r d' → all ≡ hs ++ fault_of r →
-      Happens cells puts paints tick d hs d' all
+  pub happens_tick : (d d' : Display P) (r : Option Fault) (hs all : List Fault) → Ticks make d r d' → all ≡ hs ++ fault_of r →
+      Happens make tick d hs d' all
   happens_tick d d' r hs all h j = record { given = fault_of r; calls = ticked r none h; joined = j }
 
   -- a byte, fed with an empty list over two places, and the two entries then collected
   pub happens_byte : (b : ℕ) (d d' : Display P) (l l' : BoundedList Fault) (r : Result ℕ FeedRefusal) (o o' : Option Fault) (hs mid all : List Fault) →
-      entries l ≡ [] → capacity l ≡ 2 → Feeds cells puts paints d (b ∷ []) l r d' l' →
+      entries l ≡ [] → capacity l ≡ 2 → Feeds make d (b ∷ []) l r d' l' →
       o ≡ slice_get (entries l') 0 → o' ≡ slice_get (entries l') 1 → mid ≡ hs ++ fault_of o → all ≡ mid ++ fault_of o' →
-      Happens cells puts paints (byte b) d hs d' all
+      Happens make (byte b) d hs d' all
   happens_byte b d d' l l' r o o' hs mid all empty two h is is' p q =
       let piece = b ∷ [] in
       let room : 2 ≤ free l = omega (arith, ap length empty, two) in
-      let took = MatchOption-at_none (Accepts cells puts paints d piece l r d' l') (λ e. Refuses cells puts paints e d l r d' l') (accepts b l room) h in
-      let long : capacity l' ≡ capacity l = ap length took.grown.places ∙ laid-length (places l) (length (entries l)) (faults (view cells d) (map byte piece)) in
+      let took = MatchOption-at_none (Accepts make d piece l r d' l') (λ e. Refuses make e d l r d' l') (accepts b l room) h in
+      let long : capacity l' ≡ capacity l = ap length took.grown.places ∙ laid-length (places l) (length (entries l)) (faults (view make d) (map byte piece)) in
       let few : length (entries l') ≤ 2 = omega (arith, length-take l'.len (places l'), long, two) in
       let all_of : fault_of o ++ fault_of o' ≡ entries l' = (λ i. fault_of (is i) ++ fault_of (is' i)) ∙ both (entries l') few in
       record {
         given = entries l';
-        calls = subst (λ x. Calls cells puts paints d (accepted x piece) (entries l') d') took.answers
+        calls = subst (λ x. Calls make d (accepted x piece) (entries l') d') took.answers
             (fed (entries l') piece l l' r none h (ap (λ z. z ++ entries l') (sym empty)));
         joined = q ∙ ap (λ z. z ++ fault_of o') p ∙ append_assoc hs (fault_of o) (fault_of o') ∙ ap (λ z. hs ++ z) all_of;
       }
 
   -- one happening more of a script
   pub script_more : (first d d' : Display P) (hs : List Happening) (i : ℕ) (o x : Happening) (fs all : List Fault) → i < length hs → x ≡ get_or hs i o →
-      Calls cells puts paints first (events_of (take i hs)) fs d → Happens cells puts paints (event_of x) d fs d' all →
-      Calls cells puts paints first (events_of (take (i + 1) hs)) all d'
+      Calls make first (events_of (take i hs)) fs d → Happens make (event_of x) d fs d' all →
+      Calls make first (events_of (take (i + 1) hs)) all d'
   script_more first d d' hs i o x fs all lt is before h =
       let es = events_of (take i hs) in
       let split : es ++ event_of x ∷ [] ≡ events_of (take (i + 1) hs) = ap (λ y. es ++ event_of y ∷ []) is ∙ sym (map_more event_of hs i o lt) in
-      subst₂ (λ y z. Calls cells puts paints first y z d') split (sym h.joined)
+      subst₂ (λ y z. Calls make first y z d') split (sym h.joined)
       (calls-append first d d' es (event_of x ∷ []) fs h.given before h.calls)

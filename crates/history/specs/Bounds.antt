@@ -1,4 +1,5 @@
 -- What a display never exceeds.
+use Rattle.panel.specs.Laws.{Make}
 use Rattle.std.specs.Prelude.{◌≡◌, ℕ, ◌<◌, ◌≤◌, true, false, List, length, Some, ◌≢◌}
 use Rattle.glass.specs.declared.area.Area.{Area}
 use Rattle.glass.specs.Places.{holds, whole}
@@ -32,10 +33,10 @@ pub record Bounded (c : Core) : Type 0 where
   pub sharing : (n m : Slot) (a b : Area) → same n m ≡ false → at c.layout.slots n ≡ Some a → at c.layout.slots m ≡ Some b →
       (x y : ℕ) → holds a x y ≡ true → holds b x y ≢ true
 
-module _ {P : Type 0} (cells : P → List ℕ) (puts : P → ℕ → ℕ → P → Type 0) (paints : P → P → Type 0) where
+module _ {P : Type 0} (make : Make P) where
   pub record Bounds : Type 0 where
     -- Every display is bounded, so a display is at every moment of its life.
-    pub displays : (d : Display P) → Bounded (view cells d).core
+    pub displays : (d : Display P) → Bounded (view make d).core
     -- And so is the abstract display that is given the events of a life, when all of them are given.
     pub lives : (settings : Preset) (es : List Event) (fs : List Fault) (d : Display P) →
-        Life cells puts paints settings es fs d → Bounded (after (new settings) es).core
+        Life make settings es fs d → Bounded (after (new settings) es).core

@@ -1,4 +1,5 @@
 -- Displays compared, over panels of any two makes.
+use Rattle.panel.specs.Laws.{Make}
 use Rattle.std.specs.Prelude.{◌≡◌, ℕ, List}
 use Rattle.display.specs.declared.words.Question.{Question}
 use Rattle.display.specs.declared.words.Question.TheVariants.{Cell, Cursor, Window, User, Macro, Lamp, Modes}
@@ -6,10 +7,10 @@ use Rattle.display.specs.declared.display.Display.{Display}
 use Rattle.display.specs.Answers.{answer}
 use Rattle.display.specs.Calls.{view}
 
-module _ {P Q : Type 0} (cells : P → List ℕ) (cells' : Q → List ℕ) (a : Display P) (b : Display Q) where
+module _ {P Q : Type 0} (make : Make P) (make' : Make Q) (a : Display P) (b : Display Q) where
   -- both answer a question alike
   abbrev pub AgreeOn : Question → Type 0
-  AgreeOn q = answer (view cells a) q ≡ answer (view cells' b) q
+  AgreeOn q = answer (view make a) q ≡ answer (view make' b) q
 
   -- both answer every question alike
   abbrev pub Agree : Type 0

@@ -1,4 +1,5 @@
 -- The life of a display: switching on, and then any calls in any order, refused ones too.
+use Rattle.panel.specs.Laws.{Make}
 use Rattle.std.specs.Prelude.{◌≡◌, ℕ, List, [], ◌∷◌, ◌++◌, map, Ok, Err, Option, Result}
 use Rattle.list.specs.declared.list.BoundedList.{BoundedList}
 use Rattle.list.specs.Entries.{entries}
@@ -17,22 +18,22 @@ abbrev pub accepted : Result ℕ FeedRefusal → List ℕ → List Event
 accepted (Ok n) piece = map byte piece
 accepted (Err e) piece = []
 
-module _ {P : Type 0} (cells : P → List ℕ) (puts : P → ℕ → ℕ → P → Type 0) (paints : P → P → Type 0) where
+module _ {P : Type 0} (make : Make P) where
   -- Calls one after another, from a display to the display at their end, with the events accepted and the faults given.
   pub data Calls (d : Display P) : List Event → List Fault → Display P → Type 0 where
     none : Calls d [] [] d
     fed : {es : List Event} {fs : List Fault} {d₁ d₂ : Display P} (given : List Fault) (piece : List ℕ) (l l' : BoundedList Fault) (r : Result ℕ FeedRefusal) →
-        Calls d es fs d₁ → Feeds cells puts paints d₁ piece l r d₂ l' → entries l' ≡ entries l ++ given → Calls d (es ++ accepted r piece) (fs ++ given) d₂
+        Calls d es fs d₁ → Feeds make d₁ piece l r d₂ l' → entries l' ≡ entries l ++ given → Calls d (es ++ accepted r piece) (fs ++ given) d₂
     ticked : {es : List Event} {fs : List Fault} {d₁ d₂ : Display P} (r : Option Fault) →
-        Calls d es fs d₁ → Ticks cells puts paints d₁ r d₂ → Calls d (es ++ tick ∷ []) (fs ++ fault_of r) d₂
+        Calls d es fs d₁ → Ticks make d₁ r d₂ → Calls d (es ++ tick ∷ []) (fs ++ fault_of r) d₂
     painted : {es : List Event} {fs : List Fault} {d₁ d₂ : Display P} →
-        Calls d es fs d₁ → Paints cells puts paints d₁ d₂ → Calls d es fs d₂
+        Calls d es fs d₁ → Paints make d₁ d₂ → Calls d es fs d₂
     asked : {es : List Event} {fs : List Fault} {d₁ : Display P} (q : Question) (r : Result Answer AskRefusal) →
-        Calls d es fs d₁ → Asks cells puts paints d₁ q r → Calls d es fs d₁
+        Calls d es fs d₁ → Asks make d₁ q r → Calls d es fs d₁
 
   -- since switching on with these settings, over some panel
   pub record Life (settings : Preset) (es : List Event) (fs : List Fault) (d : Display P) : Type 0 where
     pub panel : P
     pub first : Display P
-    pub on : SwitchesOn cells puts paints settings panel first
+    pub on : SwitchesOn make settings panel first
     pub calls : Calls first es fs d

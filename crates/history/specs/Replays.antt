@@ -1,4 +1,5 @@
 -- What a script says: its events, in order.
+use Rattle.panel.specs.Laws.{Make}
 use Rattle.std.specs.Prelude.{◌≡◌, ℕ, List, [], ◌∷◌, ◌++◌, map}
 use Rattle.terms.specs.declared.fault.Fault.{Fault}
 use Rattle.state.specs.Model.{Event, byte, tick}
@@ -14,9 +15,9 @@ event_of Tick = tick
 abbrev pub events_of : List Happening → List Event
 events_of hs = map event_of hs
 
-module _ {P : Type 0} (cells : P → List ℕ) (puts : P → ℕ → ℕ → P → Type 0) (paints : P → P → Type 0) where
+module _ {P : Type 0} (make : Make P) where
   -- A display accepts one event, by calls, and the faults that they give are added to those collected before.
   pub record Happens (e : Event) (d : Display P) (before : List Fault) (d' : Display P) (all : List Fault) : Type 0 where
     pub given : List Fault
-    pub calls : Calls cells puts paints d (e ∷ []) given d'
+    pub calls : Calls make d (e ∷ []) given d'
     pub joined : all ≡ before ++ given

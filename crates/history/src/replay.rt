@@ -10,17 +10,12 @@ use display::display::Display;
 use list::BoundedList;
 use panel::Panel;
 use std::alloc::{AllocError, Global};
-use terms::fault::{DisplayFault, Fault};
+use terms::fault::{Fault, UNUSED};
 use terms::settings::Settings;
 
 mod words;
 
 pub use words::{Happening, Replayed};
-
-// What a fault place holds before it is used.
-const UNUSED: Fault = Fault::Said {
-    fault: DisplayFault::WindowDefined,
-};
 
 fn collect(faults: &mut Vec<Fault>, fault: Option<Fault>) -> Result<(), AllocError>
     ensures { OnOk result (faults.new.items ≡ faults.old.items ++ fault_of fault) }
@@ -37,7 +32,7 @@ fn give_byte<P: Panel>(
     byte: u8,
     faults: &mut Vec<Fault>,
 ) -> Result<(), AllocError>
-    ensures { OnOk result (Happens P.cells P.puts P.paints (event_of (Happening.Byte byte)) display.old faults.old.items display.new faults.new.items) }
+    ensures { OnOk result (Happens P.make (event_of (Happening.Byte byte)) display.old faults.old.items display.new faults.new.items) }
 {
     let mut places = [UNUSED; 2];
     let mut list = BoundedList::over(&mut places);
@@ -52,7 +47,7 @@ fn happen<P: Panel>(
     happening: Happening,
     faults: &mut Vec<Fault>,
 ) -> Result<(), AllocError>
-    ensures { OnOk result (Happens P.cells P.puts P.paints (event_of happening) display.old faults.old.items display.new faults.new.items) }
+    ensures { OnOk result (Happens P.make (event_of happening) display.old faults.old.items display.new faults.new.items) }
 {
     match happening {
         Happening::Byte { byte } => give_byte(display, byte, faults),
@@ -67,8 +62,8 @@ pub fn replay<P: Panel + Drop>(
     panel: P,
     script: &[Happening],
 ) -> Result<Replayed<P>, AllocError>
-    ensures lived { IfOk result (λ x. Life P.cells P.puts P.paints (preset settings) (events_of script.now) x.faults.items x.display) }
-    ensures history { History P.cells P.puts P.paints P.cells P.puts P.paints }
+    ensures lived { IfOk result (λ x. Life P.make (preset settings) (events_of script.now) x.faults.items x.display) }
+    ensures history { History P.make P.make }
 {
     let mut display = Display::switch_on(settings, panel);
     let mut faults = Vec::new(heap);

@@ -8,7 +8,7 @@ use panel::Panel;
 // Every display shows what the rules say of its settings, bytes and ticks, and nothing else: over panels of any two
 // makes, in any pieces, from the recall on, and inside the current window.
 pub fn history_holds<P: Panel, Q: Panel>() -> u8
-    ensures { History P.cells P.puts P.paints Q.cells Q.puts Q.paints }
+    ensures { History P.make Q.make }
 {
     0
 }
@@ -22,7 +22,7 @@ pub fn malformed_holds() -> u8
 
 // A recording, a macro, the windows and the cursor stay within their bounds in every life.
 pub fn bounds_hold<P: Panel>() -> u8
-    ensures { Bounds P.cells P.puts P.paints }
+    ensures { Bounds P.make }
 {
     0
 }

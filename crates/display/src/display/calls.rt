@@ -1,16 +1,16 @@
 // The calls.
 ghost use Rattle.std.specs.Prelude.{◌≡◌, ◌+◌, ◌<◌, length};
 ghost use Rattle.list.specs.Entries.{entries, capacity};
-ghost use Rattle.panel.specs.Laws.{Reached};
+ghost use Rattle.panel.specs.Laws.{Drew};
 ghost use Rattle.glass.specs.Drawn.{drawn_all};
 ghost use Rattle.terms.specs.Presets.{preset};
 ghost use Rattle.state.specs.Effects.{one, strokes_of};
-ghost use Rattle.state.specs.Model.{byte as byte_event, next, reply, fault_of};
-ghost use Rattle.display.specs.Calls.{view, Grown, SwitchesOn, Feeds, Ticks, Paints, Asks, SwitchesOff};
+ghost use Rattle.state.specs.Model.{fault_of};
+ghost use Rattle.display.specs.Calls.{Grown, Takes, SwitchesOn, Feeds, Ticks, Paints, Asks, SwitchesOff};
 
 use crate::display::Display;
 use crate::words::{Answer, AskRefusal, FeedRefusal, Question};
-use glass::area::{WHOLE, place_at};
+use glass::area::{Position, WHOLE};
 use glass::stroke::{Ink, Stroke};
 use list::BoundedList;
 use panel::Panel;
@@ -23,8 +23,7 @@ use terms::settings::Settings;
 const LONGEST: usize = 4096;
 
 fn draw_some<P: Panel>(panel: &mut P, stroke: Option<Stroke>)
-    ensures cells { P.cells panel.new ≡ drawn_all (one stroke) (P.cells panel.old) }
-    ensures reached { Reached P.puts panel.old panel.new }
+    ensures { Drew P.make panel.old (drawn_all (one stroke) (P.make.cells panel.old)) panel.new }
 {
     if let Some(stroke) = stroke {
         draw(panel, stroke);
@@ -32,8 +31,7 @@ fn draw_some<P: Panel>(panel: &mut P, stroke: Option<Stroke>)
 }
 
 fn draw_all<P: Panel>(panel: &mut P, strokes: Strokes)
-    ensures cells { P.cells panel.new ≡ drawn_all (strokes_of strokes) (P.cells panel.old) }
-    ensures reached { Reached P.puts panel.old panel.new }
+    ensures { Drew P.make panel.old (drawn_all (strokes_of strokes) (P.make.cells panel.old)) panel.new }
 {
     draw_some(panel, strokes.first);
     draw_some(panel, strokes.second);
@@ -51,10 +49,9 @@ fn note(faults: &mut BoundedList<'_, Fault>, fault: Option<Fault>)
 
 impl<P: Panel> Display<P> {
     // A new display; all places are blanked.
-    pub fn switch_on(settings: Settings, panel: P) -> Display<P>
-        ensures { SwitchesOn P.cells P.puts P.paints (preset settings) panel result }
+    pub fn switch_on(settings: Settings, mut panel: P) -> Display<P>
+        ensures { SwitchesOn P.make (preset settings) panel result }
     {
-        let mut panel = panel;
         draw(
             &mut panel,
             Stroke {
@@ -71,15 +68,13 @@ impl<P: Panel> Display<P> {
     // One byte, with its faults. Most bytes go the short way.
     fn take(&mut self, byte: u8, faults: &mut BoundedList<'_, Fault>)
         requires { length (entries faults.old) + 1 < capacity faults.old }
-        ensures state { view P.cells self.new ≡ next (view P.cells self.old) (byte_event byte) }
-        ensures grown { Grown faults.old (reply (byte_event byte) (view P.cells self.old)).faults faults.new }
-        ensures reached { Reached P.puts self.old.panel self.new.panel }
+        ensures { Takes P.make self.old byte faults.old self.new faults.new }
     {
         if self.controller.is_typing(byte) {
             let at = self.controller.cursor();
             let cell = self.controller.typed_cell(byte);
             self.controller.type_on();
-            write_cell(&mut self.panel, at.column, at.row, cell);
+            write_cell(&mut self.panel, at, cell);
         } else if !self.controller.passes(byte) {
             self.take_long(byte, faults);
         }
@@ -88,9 +83,7 @@ impl<P: Panel> Display<P> {
     // The way of any byte.
     fn take_long(&mut self, byte: u8, faults: &mut BoundedList<'_, Fault>)
         requires { length (entries faults.old) + 1 < capacity faults.old }
-        ensures state { view P.cells self.new ≡ next (view P.cells self.old) (byte_event byte) }
-        ensures grown { Grown faults.old (reply (byte_event byte) (view P.cells self.old)).faults faults.new }
-        ensures reached { Reached P.puts self.old.panel self.new.panel }
+        ensures { Takes P.make self.old byte faults.old self.new faults.new }
     {
         let answer = self.controller.byte(byte);
         draw_some(&mut self.panel, answer.ending);
@@ -105,7 +98,7 @@ impl<P: Panel> Display<P> {
         piece: &[u8],
         faults: &mut BoundedList<'_, Fault>,
     ) -> Result<usize, FeedRefusal>
-        ensures { Feeds P.cells P.puts P.paints self.old piece.now faults.old result self.new faults.new }
+        ensures { Feeds P.make self.old piece.now faults.old result self.new faults.new }
     {
         if piece.len() > LONGEST {
             return Err(FeedRefusal::LongPiece);
@@ -122,7 +115,7 @@ impl<P: Panel> Display<P> {
 
     // Ten milliseconds pass; the fault that they give, if any, is answered.
     pub fn tick(&mut self) -> Option<Fault>
-        ensures { Ticks P.cells P.puts P.paints self.old result self.new }
+        ensures { Ticks P.make self.old result self.new }
     {
         let reply = self.controller.tick();
         draw_all(&mut self.panel, reply.strokes);
@@ -131,13 +124,13 @@ impl<P: Panel> Display<P> {
 
     // Tells the panel that what it holds was painted.
     pub fn painted(&mut self)
-        ensures { Paints P.cells P.puts P.paints self.old self.new }
+        ensures { Paints P.make self.old self.new }
     {
         self.panel.painted();
     }
 
     pub fn ask(&self, question: Question) -> Result<Answer, AskRefusal>
-        ensures { Asks P.cells P.puts P.paints self.now question result }
+        ensures { Asks P.make self.now question result }
     {
         let controller = &self.controller;
         match question {
@@ -164,14 +157,15 @@ impl<P: Panel> Display<P> {
     }
 
     fn cell(&self, column: u8, row: u8) -> Result<Answer, AskRefusal>
-        ensures { Asks P.cells P.puts P.paints self.now (Question.Cell column row) result }
+        ensures { Asks P.make self.now (Question.Cell column row) result }
     {
-        if let Some(place) = place_at(column, row) {
-            if let Ok(cell) = self.panel.look(place) {
-                return Ok(Answer::Cell { cell });
-            }
+        let place = Position { column, row }
+            .place()
+            .ok_or(AskRefusal::OffGlass)?;
+        match self.panel.look(place) {
+            Ok(cell) => Ok(Answer::Cell { cell }),
+            Err(_) => Err(AskRefusal::OffGlass),
         }
-        Err(AskRefusal::OffGlass)
     }
 
     // The held panel, to be looked at between calls.
@@ -183,12 +177,9 @@ impl<P: Panel> Display<P> {
 
     // Ends the display and gives its panel back.
     pub fn switch_off(self) -> P
-        ensures { SwitchesOff P.cells P.puts P.paints self result }
+        ensures { SwitchesOff P.make self result }
     {
-        let Display {
-            panel,
-            controller: _,
-        } = self;
+        let Display { panel, .. } = self;
         panel
     }
 }

@@ -10,7 +10,7 @@ returns g c =
     let a = c.args.a.now in
     let b = c.args.b.now in
     record {
-      answers = Decides-like c.same_parts.result (from_parts p.cells q.cells a b) (to_parts p.cells q.cells a b) c.same_parts.ensures;
-      glass = λ e. same_cells p.cells q.cells a b (p.laws.forty a.panel) (q.laws.forty b.panel) (from_parts p.cells q.cells a b (c.same_parts.ensures.0 e));
-      history = history p.cells p.puts p.paints p.laws q.cells q.puts q.paints q.laws;
+      answers = Decides-like c.same_parts.result (from_parts p.make q.make a b) (to_parts p.make q.make a b) c.same_parts.ensures;
+      glass = λ e. same_cells p.make q.make a b (p.laws.forty a.panel) (q.laws.forty b.panel) (from_parts p.make q.make a b (c.same_parts.ensures.0 e));
+      history = history p.make p.laws q.make q.laws;
     }

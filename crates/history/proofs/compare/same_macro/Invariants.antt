@@ -4,4 +4,4 @@ use Rattle.history.specs.Compared.{AgreeOn}
 use Rattle.history.proofs.compare.same_macro.Given as goal
 
 abbrev pub invariant-loop-index : goal.invariant-loop-index
-invariant-loop-index g l = (n : ℕ) → n < l.index → AgreeOn g.P.Panel.cells g.Q.Panel.cells l.a l.b (Macro n)
+invariant-loop-index g l = (n : ℕ) → n < l.index → AgreeOn g.P.Panel.make g.Q.Panel.make l.a l.b (Macro n)

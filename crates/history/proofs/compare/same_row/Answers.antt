@@ -9,6 +9,6 @@ returns-then-not-same_at g c =
 
 pub returns : goal.returns
 returns g c = (
-  λ e. row_all g.P.Panel.cells g.Q.Panel.cells c.args.a.now c.args.b.now c.args.row (λ x on h. c.loop-column.invariant x on (omega (arith, c.loop-column-test.false))),
+  λ e. row_all g.P.Panel.make g.Q.Panel.make c.args.a.now c.args.b.now c.args.row (λ x on h. c.loop-column.invariant x on (omega (arith, c.loop-column-test.false))),
   λ h. refl,
 )

@@ -12,10 +12,10 @@ returns-then-not-same_at g c =
 
 pub returns : goal.returns
 returns g c =
-    (λ e. users_all g.P.Panel.cells g.Q.Panel.cells c.args.a.now c.args.b.now (λ n h. c.loop-code.invariant n (omega (arith, c.loop-code-test.false))), λ h. refl)
+    (λ e. users_all g.P.Panel.make g.Q.Panel.make c.args.a.now c.args.b.now (λ n h. c.loop-code.invariant n (omega (arith, c.loop-code-test.false))), λ h. refl)
 
 -- the last code is tested by itself
 pub returns-else-not-same_at : goal.returns-else-not-same_at
 returns-else-not-same_at g c =
     let all = below_more _ _ c.loop-code.invariant (c.same_at.ensures.0 c.if-not-same_at.false) in
-    (λ e. users_all g.P.Panel.cells g.Q.Panel.cells c.args.a.now c.args.b.now (λ n h. all n (omega arith)), λ h. refl)
+    (λ e. users_all g.P.Panel.make g.Q.Panel.make c.args.a.now c.args.b.now (λ n h. all n (omega arith)), λ h. refl)

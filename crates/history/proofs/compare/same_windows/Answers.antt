@@ -12,4 +12,4 @@ returns-then-not-same_at g c =
 
 pub returns : goal.returns
 returns g c =
-    (λ e. windows_all g.P.Panel.cells g.Q.Panel.cells c.args.a.now c.args.b.now (λ n h. c.loop-number.invariant n (omega (arith, c.loop-number-test.false))), λ h. refl)
+    (λ e. windows_all g.P.Panel.make g.Q.Panel.make c.args.a.now c.args.b.now (λ n h. c.loop-number.invariant n (omega (arith, c.loop-number-test.false))), λ h. refl)

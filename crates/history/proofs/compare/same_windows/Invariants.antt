@@ -4,4 +4,4 @@ use Rattle.history.specs.Compared.{AgreeOn}
 use Rattle.history.proofs.compare.same_windows.Given as goal
 
 abbrev pub invariant-loop-number : goal.invariant-loop-number
-invariant-loop-number g l = (n : ℕ) → n < l.number → AgreeOn g.P.Panel.cells g.Q.Panel.cells l.a l.b (Window n)
+invariant-loop-number g l = (n : ℕ) → n < l.number → AgreeOn g.P.Panel.make g.Q.Panel.make l.a l.b (Window n)

@@ -12,6 +12,6 @@ returns-in-Tick g c =
     let d' = c.tick.new.self in
     let fs' = vec_items c.collect.new.faults in
     IfOk-weaker c.collect.result _ _
-    (λ _ j. subst (λ h. Happens p.cells p.puts p.paints (event_of h) d fs d' fs') (sym c.in-Tick.is)
-    (happens_tick p.cells p.puts p.paints d d' c.tick.result fs fs' c.tick.ensures j))
+    (λ _ j. subst (λ h. Happens p.make (event_of h) d fs d' fs') (sym c.in-Tick.is)
+    (happens_tick p.make d d' c.tick.result fs fs' c.tick.ensures j))
     c.collect.ensures

@@ -10,12 +10,12 @@ pub loop-happening-init : goal.loop-happening-init
 loop-happening-init g c =
     let p = g.P.Panel in
     let d = c.switch_on-display.result in
-    subst (λ x. Calls p.cells p.puts p.paints d [] x d) (sym c.new-faults.ensures.items) none
+    subst (λ x. Calls p.make d [] x d) (sym c.new-faults.ensures.items) none
 
 pub loop-happening-preserved : goal.loop-happening-preserved
 loop-happening-preserved g c =
     let p = g.P.Panel in
-    script_more p.cells p.puts p.paints c.switch_on-display.result c.loop-happening.display c.happen.new.display c.args.script.now c.loop-happening.happening-index _ _
+    script_more p.make c.switch_on-display.result c.loop-happening.display c.happen.new.display c.args.script.now c.loop-happening.happening-index _ _
     (vec_items c.loop-happening.faults) (vec_items c.happen.new.faults) c.loop-happening-test.true refl c.loop-happening.invariant c.in_ok-happen.ensures
 
 pub returns : goal.returns
@@ -27,10 +27,10 @@ returns g c =
         panel = c.args.panel;
         first = d;
         on = c.switch_on-display.ensures;
-        calls = subst (λ hs. Calls p.cells p.puts p.paints d (events_of hs) (vec_items c.loop-happening.faults) c.loop-happening.display)
+        calls = subst (λ hs. Calls p.make d (events_of hs) (vec_items c.loop-happening.faults) c.loop-happening.display)
             (take_all c.loop-happening.happening-index c.args.script.now c.loop-happening-test.false) c.loop-happening.invariant;
       };
-      history = history p.cells p.puts p.paints p.laws p.cells p.puts p.paints p.laws;
+      history = history p.make p.laws p.make p.laws;
     }
 
 pub returns-in_err-happen : goal.returns-in_err-happen
@@ -38,5 +38,5 @@ returns-in_err-happen g c =
     let p = g.P.Panel in
     record {
       lived = search rules;
-      history = history p.cells p.puts p.paints p.laws p.cells p.puts p.paints p.laws;
+      history = history p.make p.laws p.make p.laws;
     }

@@ -5,4 +5,4 @@ use Rattle.history.proofs.replay.replay.Given as goal
 
 abbrev pub invariant-loop-happening : goal.invariant-loop-happening
 invariant-loop-happening g l =
-    Calls g.P.Panel.cells g.P.Panel.puts g.P.Panel.paints l.initial.display (events_of (take l.happening-index l.script)) (vec_items l.faults) l.display
+    Calls g.P.Panel.make l.initial.display (events_of (take l.happening-index l.script)) (vec_items l.faults) l.display

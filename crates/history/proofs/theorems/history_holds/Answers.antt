@@ -5,4 +5,4 @@ pub returns : goal.returns
 returns g c =
     let p = g.P.Panel in
     let q = g.Q.Panel in
-    history p.cells p.puts p.paints p.laws q.cells q.puts q.paints q.laws
+    history p.make p.laws q.make q.laws

@@ -14,7 +14,7 @@ loop-byte-init g c = (sofar_none _ _ _, none)
 pub take-requires : goal.take-requires
 take-requires g c =
     let l = c.args.faults.now in
-    let fs = faults (view g.P.Panel.cells c.args.self.now) (map byte (take c.loop-byte.byte-index c.args.piece.now)) in
+    let fs = faults (view g.P.Panel.make c.args.self.now) (map byte (take c.loop-byte.byte-index c.args.piece.now)) in
     let h = c.loop-byte.invariant.0 in
     let long : length (entries c.loop-byte.faults) ≡ length (entries l) + length fs = ap length h.grown.list ∙ length-append (entries l) fs in
     omega (arith, h.few, grown_capacity l c.loop-byte.faults fs h.grown, long, c.free.ensures, c.if-free-piece.false, c.loop-byte-test.true)
@@ -28,7 +28,7 @@ loop-byte-preserved g c = (
 pub overflow_sub-result : goal.overflow_sub-result
 overflow_sub-result g c =
     let l = c.args.faults.now in
-    let fs = faults (view g.P.Panel.cells c.args.self.now) (map byte (take c.loop-byte.byte-index c.args.piece.now)) in
+    let fs = faults (view g.P.Panel.make c.args.self.now) (map byte (take c.loop-byte.byte-index c.args.piece.now)) in
     let long : length (entries c.loop-byte.faults) ≡ length (entries l) + length fs = ap length c.loop-byte.invariant.0.grown.list ∙ length-append (entries l) fs in
     omega (arith, long, c.count.ensures.value, c.count-before.ensures.value)
 
@@ -41,9 +41,9 @@ returns g c =
     let d' = c.loop-byte.self in
     let l' = c.loop-byte.faults in
     let r = Ok (c.count.result - c.count-before.result) in
-    let w = sofar_all (view p.cells d) (view p.cells d') l l' piece c.loop-byte.byte-index c.loop-byte-test.false c.loop-byte.invariant.0 in
-    let fs = faults (view p.cells d) (map byte piece) in
+    let w = sofar_all (view p.make d) (view p.make d') l l' piece c.loop-byte.byte-index c.loop-byte-test.false c.loop-byte.invariant.0 in
+    let fs = faults (view p.make d) (map byte piece) in
     let long : length (entries l') ≡ length (entries l) + length fs = ap length w.1.list ∙ length-append (entries l) fs in
-    subst (λ o. MatchOption o (Accepts p.cells p.puts p.paints d piece l r d' l') (λ e. Refuses p.cells p.puts p.paints e d l r d' l'))
+    subst (λ o. MatchOption o (Accepts p.make d piece l r d' l') (λ e. Refuses p.make e d l r d' l'))
     (sym (no_cause piece l (omega (arith, c.if-piece-gt-LONGEST.false)) (omega (arith, c.if-free-piece.false, c.free.ensures))))
     (record { state = w.0; grown = w.1; answers = ap Ok (omega (arith, long, c.count.ensures.value, c.count-before.ensures.value)); reached = c.loop-byte.invariant.1 })

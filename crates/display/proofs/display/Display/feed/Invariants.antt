@@ -5,5 +5,5 @@ use Rattle.display.proofs.display.Display.feed.Given as goal
 
 abbrev pub invariant-loop-byte : goal.invariant-loop-byte
 invariant-loop-byte g l =
-    Sofar (view g.P.Panel.cells l.initial.self) l.initial.faults l.piece l.byte-index (view g.P.Panel.cells l.self) l.faults
-    × Reached g.P.Panel.puts l.initial.self.panel l.self.panel
+    Sofar (view g.P.Panel.make l.initial.self) l.initial.faults l.piece l.byte-index (view g.P.Panel.make l.self) l.faults
+    × Reached g.P.Panel.make.puts l.initial.self.panel l.self.panel

@@ -16,7 +16,7 @@ returns-then-is_typing g c =
     let b = c.args.byte in
     let k = core_of c.args.self.now.controller in
     let p = c.args.self.now.panel in
-    let cs = g.P.Panel.cells p in
+    let cs = g.P.Panel.make.cells p in
     let t = c.is_typing.ensures.types c.if-is_typing.true in
     let at = c.cursor-at.ensures in
     let v = c.typed_cell-cell.ensures in
@@ -36,7 +36,7 @@ returns-then-not-passes g c =
     let k = core_of c.args.self.now.controller in
     let k' = core_of c.passes.new.self in
     let same : k' ≡ k = subst (λ r. Passes b k r k') c.if-not-passes.true c.passes.ensures in
-    let whole = state_path (view g.P.Panel.cells (record { panel = c.args.self.now.panel; controller = c.passes.new.self })) (view g.P.Panel.cells c.args.self.now) same refl in
+    let whole = state_path (view g.P.Panel.make (record { panel = c.args.self.now.panel; controller = c.passes.new.self })) (view g.P.Panel.make c.args.self.now) same refl in
     record {
       state = c.take_long.ensures.state ∙ ap (λ s. next s (byte b)) whole;
       grown = subst (λ s. Grown c.args.faults.now (reply (byte b) s).faults c.take_long.new.faults) whole c.take_long.ensures.grown;
@@ -50,7 +50,7 @@ returns-else-not-passes g c =
     let k' = core_of c.passes.new.self in
     let h : Shortly b k [] k' = subst (λ r. Passes b k r k') c.if-not-passes.false c.passes.ensures in
     record {
-      state = state_path _ _ h.core (ap (λ ss. drawn_all ss (g.P.Panel.cells c.args.self.now.panel)) h.strokes);
+      state = state_path _ _ h.core (ap (λ ss. drawn_all ss (g.P.Panel.make.cells c.args.self.now.panel)) h.strokes);
       grown = subst (λ fs. Grown c.args.faults.now fs c.args.faults.now) h.faults (grown_none c.args.faults.now);
       reached = none;
     }

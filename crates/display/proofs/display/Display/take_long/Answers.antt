@@ -10,7 +10,7 @@ use Rattle.display.proofs.display.Display.take_long.Goals as goal
 
 pub returns : goal.returns
 returns g c =
-    let cells = g.P.Panel.cells in
+    let cells = g.P.Panel.make.cells in
     let r = c.byte-answer.ensures in
     let a = c.byte-answer.result in
     let p = c.args.self.now.panel in

@@ -5,4 +5,4 @@ use Rattle.state.specs.Effects.{one}
 use Rattle.display.proofs.display.calls.draw_some.Goals as goal
 
 pub returns-in_default : goal.returns-in_default
-returns-in_default g c = record { cells = ap (λ s. drawn_all (one s) (g.P.Panel.cells c.args.panel.now)) (sym c.in_default.is); reached = none }
+returns-in_default g c = record { cells = ap (λ s. drawn_all (one s) (g.P.Panel.make.cells c.args.panel.now)) (sym c.in_default.is); reached = none }
