@@ -7,3 +7,4 @@ mod Lived
 mod Bounds
 mod Replayed
 mod Compared
+mod Said
