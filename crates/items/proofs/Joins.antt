@@ -1,13 +1,14 @@
 -- What the parts handed out so far are, joined.
 -- Assumes nothing.
-use Rattle.std.proofs.Common.{◌≡◌, ℕ, ◌+◌, ◌-◌, ◌<◌, List, [], ◌∷◌, ◌++◌, length, take, drop, IfSome, Some, None, Option, sym, refl, ap, ◌∙◌, subst, append_assoc, append-nil, arith, length-drop, take-append-drop, length-take-le}
+use Rattle.std.proofs.Common.{◌≡◌, ℕ, ◌+◌, ◌-◌, ◌<◌, List, [], ◌∷◌, ◌++◌, length, take, drop, IfSome, Some, None, Option, Bor, sym, refl, ap, ◌∙◌, subst, append_assoc, append-nil, arith, length-drop, take-append-drop, length-take-le}
+use Rattle.std.specs.Iterator.{Yields}
 use Rattle.std.specs.List.{flat_map}
 use Rattle.std.proofs.lemmas.List.{drop_all, drop-drop}
 use Rattle.reader.specs.declared.words.Reading.TheVariants.{Rest}
 use Rattle.items.specs.declared.parts.Part.{Part}
 use Rattle.items.specs.Extents.{extent_of}
 use Rattle.items.specs.declared.parts.Items.{Items}
-use Rattle.items.specs.Hands.{Hands, remaining}
+use Rattle.items.specs.Hands.{Hands, bytes_left}
 use Rattle.items.specs.Handed.{PartAt, bytes_of, Walked}
 use Rattle.items.proofs.Extents.{size_within, size_some}
 
@@ -37,14 +38,28 @@ pub same_bytes : (s t : Items) (r : Option Part) → Hands s r t → t.buffer.no
 same_bytes s t r h = ap (λ x. x.now) h.same
 
 -- a call that hands out a part leaves less
-pub goes : (s t : Items) (r : Option Part) → Hands s r t → IfSome r (λ _. Unit {0} × Unit {0} × (remaining t < remaining s))
+pub goes : (s t : Items) (r : Option Part) → Hands s r t → IfSome r (λ _. Unit {0} × Unit {0} × (bytes_left t < bytes_left s))
 goes s t None h = tt
 goes s t (Some p) h = let e = ap length (same_bytes s t (Some p) h) in (tt, tt, omega (arith, nearer _ _ _ _ h.item))
 
--- one more part at the end
-pub walked_more : (bs : List ℕ) (at : ℕ) (ps : List Part) (m : ℕ) (p : Part) (n : ℕ) → Walked bs at ps m → PartAt bs m p n → Walked bs at (ps ++ p ∷ []) n
-walked_more bs at [] m p n e h = (n, subst (λ k. PartAt bs k p n) (sym e) h, refl)
-walked_more bs at (q ∷ ps) m p n w h = (w.0, w.1, walked_more bs w.0 ps m p n w.2 h)
+-- the parts that calls handed out stand one after the other, and the buffer is kept
+yields_walked :
+    (bs : List ℕ) (s : Items) (ps : List Part) (t : Items) →
+    s.buffer.now ≡ bs → Yields Hands s ps t → Walked bs s.at ps t.at × (t.buffer.now ≡ bs)
+yields_walked bs s [] t same e = (ap (λ (i : Items). i.at) e, ap (λ (i : Items). i.buffer.now) (sym e) ∙ same)
+yields_walked bs s (p ∷ ps) t same (j, h, y) =
+    let rest = yields_walked bs j ps t (same_bytes s j _ h ∙ same) y in
+    ((j.at, subst (λ b. PartAt b s.at p j.at) same h.item, rest.0), rest.1)
+
+-- what a new reader hands out up to the end are all items of the buffer
+pub drained :
+    (b : Bor (List ℕ)) (s t u : Items) (ps : List Part) →
+    (s.buffer ≡ b) × (s.at ≡ 0) → Yields Hands s ps t → Hands t None u → Walked b.now 0 ps (length b.now)
+drained b s t u ps (same, at) yields end =
+    let walked = yields_walked b.now s ps t (ap (λ x. x.now) same) yields in
+    let long = ap length walked.1 in
+    let reached : t.at ≡ length b.now = omega (arith, end.item.0, t.ok) in
+    subst (λ n. Walked b.now n ps (length b.now)) at (subst (Walked b.now s.at ps) reached walked.0)
 
 joined_from : (bs : List ℕ) (at : ℕ) (ps : List Part) (to : ℕ) → Walked bs at ps to → flat_map bytes_of ps ++ drop to bs ≡ drop at bs
 joined_from bs at [] to e = ap (λ k. drop k bs) (sym e)

@@ -21,7 +21,7 @@ use Rattle.items.specs.Extents.{ending, extent_of, or_else}
 use Rattle.items.specs.Handed.{bytes_of, PartAt, Walked, Counted, Whole}
 use Rattle.items.specs.Hands.{Hands, WholeWalk}
 use Rattle.items.proofs.Extents.{size_some}
-use Rattle.items.proofs.Joins.{long, parts_join, walked_more}
+use Rattle.items.proofs.Joins.{long, parts_join}
 
 -- no outcome ends an item as unfinished
 abbrev Finished : Kind → Type 0
@@ -122,26 +122,3 @@ none_past s (Some p) t h past = absurd (omega (arith, h.item.before))
 
 pub whole_walk : WholeWalk
 whole_walk = record { whole = whole; then_none = none_past }
-
--- the items that were counted on the way to a place
-pub record Tally (bs : List ℕ) (at n : ℕ) : Type 0 where
-  pub parts : List Part
-  pub walked : Walked bs 0 parts at
-  pub many : n ≡ length parts
-  pub few : n ≤ at
-
-pub tally_none : (bs : List ℕ) → Tally bs 0 0
-tally_none bs = record { parts = []; walked = refl; many = refl; few = omega arith }
-
-pub tally_more : (bs : List ℕ) (at n next : ℕ) (p : Part) → Tally bs at n → PartAt bs at p next → Tally bs next (n + 1)
-tally_more bs at n next p t part = record {
-  parts = t.parts ++ p ∷ [];
-  walked = walked_more bs 0 t.parts at p next t.walked part;
-  many = omega (arith, t.many, length-append t.parts (p ∷ []));
-  few =
-      let left = length-drop at bs in
-      omega (arith, t.few, part.before, part.next_is, size_some Rest (drop at bs) (omega (arith, part.before)));
-}
-
-pub tally_all : (bs : List ℕ) (at n : ℕ) → Tally bs at n → at ≡ length bs → Counted bs n
-tally_all bs at n t end = (t.parts, subst (Walked bs 0 t.parts) end t.walked, t.many)
