@@ -33,8 +33,8 @@ fn extent(bytes: &[u8]) -> Extent
     ensures some { 0 < length bytes.now → 0 < result.size }
 {
     let mut reading = Reading::Rest;
-    for (i, byte) in bytes.iter().enumerate() {
-        let step = reading.take(*byte);
+    for (i, &byte) in bytes.iter().enumerate() {
+        let step = reading.take(byte);
         if let Some(kind) = ended(step.outcome) {
             return Extent { size: i + 1, kind };
         }
