@@ -11,10 +11,6 @@ use Rattle.items.specs.declared.kinds.Kind.TheVariants.{Unfinished}
 use Rattle.items.specs.declared.parts.Extent.{Extent}
 use Rattle.items.specs.Extents.{ending, extent_of, or_else}
 
--- the item with n bytes more in front
-abbrev pub ahead : ℕ → Extent → Extent
-ahead n e = record { size = n + e.size; kind = e.kind }
-
 or_else_size : (o : Option Kind) (e : Extent) (n : ℕ) → e.size ≤ n → (0 < (or_else o e).size) × ((or_else o e).size ≤ suc n)
 or_else_size (Some k) e n h = (omega arith, omega arith)
 or_else_size None e n h = (omega arith, omega arith)
@@ -22,9 +18,9 @@ or_else_size None e n h = (omega arith, omega arith)
 -- an item lies within the bytes
 pub size_within : (r : Reading) (bs : List ℕ) → (extent_of r bs).size ≤ length bs
 size_within r [] = omega arith
-size_within r (b ∷ bs) = (or_else_size (ending (step r b).outcome) _ (length bs) (size_within (step r b).next bs)).1
+size_within r (b ∷ bs) = grind (arith, size_within (step r b).next bs)
 
 -- and has at least one of them
 pub size_some : (r : Reading) (bs : List ℕ) → 0 < length bs → 0 < (extent_of r bs).size
 size_some r [] h = h
-size_some r (b ∷ bs) h = (or_else_size (ending (step r b).outcome) _ (length bs) (size_within (step r b).next bs)).0
+size_some r (b ∷ bs) h = grind arith

@@ -13,34 +13,13 @@ use Rattle.items.specs.Handed.{PartAt, bytes_of, Walked}
 use Rattle.items.proofs.Extents.{size_within, size_some}
 
 module _ (bs : List ℕ) (at : ℕ) (p : Part) (next : ℕ) (part : PartAt bs at p next) where
-  -- a part is not empty, so the place falls towards the end
-  pub nearer : length bs - next < length bs - at
-  nearer =
-      let long = length-drop at bs in
-      let some : 0 < (extent_of Rest (drop at bs)).size = size_some Rest (drop at bs) (omega (arith, part.before)) in
-      omega (arith, part.before, part.next_is)
-
   front : bytes_of p ++ drop next bs ≡ drop at bs
   front =
       let n = (extent_of Rest (drop at bs)).size in
-      ap (λ l. l ++ drop next bs) part.bytes
-      ∙ ap (λ l. take n (drop at bs) ++ l) (ap (λ m. drop m bs) part.next_is ∙ sym (drop-drop n at bs))
-      ∙ take-append-drop n (drop at bs)
+      rw part.bytes (rw part.next_is (rw (sym (drop-drop n at bs)) (take-append-drop n (drop at bs))))
 
   pub long : length (bytes_of p) + at ≡ next
-  long =
-      let n = (extent_of Rest (drop at bs)).size in
-      let e = ap length part.bytes ∙ length-take-le n (drop at bs) (size_within Rest (drop at bs)) in
-      omega (arith, part.next_is)
-
--- a call keeps the buffer, so its bytes too
-pub same_bytes : (s t : Items) (r : Option Part) → Hands s r t → t.buffer.now ≡ s.buffer.now
-same_bytes s t r h = ap (λ x. x.now) h.same
-
--- a call that hands out a part leaves less
-pub goes : (s t : Items) (r : Option Part) → Hands s r t → IfSome r (λ _. Unit {0} × Unit {0} × (bytes_left t < bytes_left s))
-goes s t None h = tt
-goes s t (Some p) h = let e = ap length (same_bytes s t (Some p) h) in (tt, tt, omega (arith, nearer _ _ _ _ h.item))
+  long = grind (arith, size_within, length-take-le, part.bytes, part.next_is)
 
 -- the parts that calls handed out stand one after the other, and the buffer is kept
 yields_walked :
@@ -48,7 +27,7 @@ yields_walked :
     s.buffer.now ≡ bs → Yields Hands s ps t → Walked bs s.at ps t.at × (t.buffer.now ≡ bs)
 yields_walked bs s [] t same e = (ap (λ (i : Items). i.at) e, ap (λ (i : Items). i.buffer.now) (sym e) ∙ same)
 yields_walked bs s (p ∷ ps) t same (j, h, y) =
-    let rest = yields_walked bs j ps t (same_bytes s j _ h ∙ same) y in
+    let rest = yields_walked bs j ps t (ap (λ x. x.now) h.same ∙ same) y in
     ((j.at, subst (λ b. PartAt b s.at p j.at) same h.item, rest.0), rest.1)
 
 -- what a new reader hands out up to the end are all items of the buffer

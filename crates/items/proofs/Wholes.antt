@@ -23,34 +23,20 @@ use Rattle.items.specs.Hands.{Hands, WholeWalk}
 use Rattle.items.proofs.Extents.{size_some}
 use Rattle.items.proofs.Joins.{long, parts_join}
 
--- no outcome ends an item as unfinished
-abbrev Finished : Kind → Type 0
-Finished Character = Unit {0}
-Finished Command = Unit {0}
-Finished Ignored = Unit {0}
-Finished Faulty = Unit {0}
-Finished Unfinished = ⊥
-
-abbrev AnyFinished : Option Kind → Type 0
-AnyFinished None = Unit {0}
-AnyFinished (Some k) = Finished k
-
-ending_finished : (o : Outcome) → AnyFinished (ending o)
-ending_finished outcome.Pending = tt
-ending_finished outcome.Ignored = tt
-ending_finished (outcome.Complete c) = cond_both (is_character c) Character Command Finished (λ _. tt) (λ _. tt)
-ending_finished (outcome.Partial c) = tt
-ending_finished (outcome.Faulty f) = tt
-
-or_else_last : (o : Option Kind) (e : Extent) (n : ℕ) → AnyFinished o → (e.kind ≡ Unfinished → e.size ≡ n) → (or_else o e).kind ≡ Unfinished → (or_else o e).size ≡ suc n
-or_else_last (Some k) e n finished h is = absurd (subst Finished is finished)
-or_else_last None e n finished h is = let same = h is in omega arith
+-- no outcome ends an item as unfinished: such a one goes on
+or_else_last :
+    (o : Outcome) (e : Extent) (n : ℕ) →
+    (e.kind ≡ Unfinished → e.size ≡ n) → (or_else (ending o) e).kind ≡ Unfinished → (or_else (ending o) e).size ≡ suc n
+or_else_last outcome.Pending e n h is = grind arith
+or_else_last outcome.Ignored e n h is = grind arith
+or_else_last (outcome.Complete c) e n h is = grind arith
+or_else_last (outcome.Partial c) e n h is = grind arith
+or_else_last (outcome.Faulty f) e n h is = grind arith
 
 -- an unfinished item reaches to the end
 reaches : (r : Reading) (bs : List ℕ) → (extent_of r bs).kind ≡ Unfinished → (extent_of r bs).size ≡ length bs
 reaches r [] is = omega arith
-reaches r (b ∷ bs) is =
-    or_else_last (ending (step r b).outcome) _ (length bs) (ending_finished (step r b).outcome) (reaches (step r b).next bs) is
+reaches r (b ∷ bs) is = or_else_last (step r b).outcome _ (length bs) (reaches (step r b).next bs) is
 
 -- one byte more in front of an item that leaves the reader at rest, or the byte that ends it
 rests_more :
@@ -58,12 +44,10 @@ rests_more :
     (ends o ≡ true → (step r b).next ≡ Rest) →
     ((e.kind ≡ Unfinished → ⊥) → run (step r b).next (take e.size bs) ≡ Rest) →
     ((or_else (ending o) e).kind ≡ Unfinished → ⊥) → run r (take (or_else (ending o) e).size (b ∷ bs)) ≡ Rest
-rests_more outcome.Pending r b bs e here later finished =
-    subst (λ n. run r (take n (b ∷ bs)) ≡ Rest) (sym (add-one e.size)) (later finished)
+rests_more outcome.Pending r b bs e here later finished = grind (arith, later finished)
 rests_more outcome.Ignored r b bs e here later finished = here refl
 rests_more (outcome.Complete c) r b bs e here later finished = here refl
-rests_more (outcome.Partial c) r b bs e here later finished =
-    subst (λ n. run r (take n (b ∷ bs)) ≡ Rest) (sym (add-one e.size)) (later finished)
+rests_more (outcome.Partial c) r b bs e here later finished = grind (arith, later finished)
 rests_more (outcome.Faulty f) r b bs e here later finished = here refl
 
 -- an item that is finished leaves the reader at rest
