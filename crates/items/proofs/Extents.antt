@@ -11,10 +11,6 @@ use Rattle.items.specs.declared.kinds.Kind.TheVariants.{Unfinished}
 use Rattle.items.specs.declared.parts.Extent.{Extent}
 use Rattle.items.specs.Extents.{ending, extent_of, or_else}
 
-or_else_size : (o : Option Kind) (e : Extent) (n : ℕ) → e.size ≤ n → (0 < (or_else o e).size) × ((or_else o e).size ≤ suc n)
-or_else_size (Some k) e n h = (omega arith, omega arith)
-or_else_size None e n h = (omega arith, omega arith)
-
 -- an item lies within the bytes
 pub size_within : (r : Reading) (bs : List ℕ) → (extent_of r bs).size ≤ length bs
 size_within r [] = omega arith

@@ -23,20 +23,10 @@ use Rattle.items.specs.Hands.{Hands, WholeWalk}
 use Rattle.items.proofs.Extents.{size_some}
 use Rattle.items.proofs.Joins.{long, parts_join}
 
--- no outcome ends an item as unfinished: such a one goes on
-or_else_last :
-    (o : Outcome) (e : Extent) (n : ℕ) →
-    (e.kind ≡ Unfinished → e.size ≡ n) → (or_else (ending o) e).kind ≡ Unfinished → (or_else (ending o) e).size ≡ suc n
-or_else_last outcome.Pending e n h is = grind arith
-or_else_last outcome.Ignored e n h is = grind arith
-or_else_last (outcome.Complete c) e n h is = grind arith
-or_else_last (outcome.Partial c) e n h is = grind arith
-or_else_last (outcome.Faulty f) e n h is = grind arith
-
 -- an unfinished item reaches to the end
 reaches : (r : Reading) (bs : List ℕ) → (extent_of r bs).kind ≡ Unfinished → (extent_of r bs).size ≡ length bs
 reaches r [] is = omega arith
-reaches r (b ∷ bs) is = or_else_last (step r b).outcome _ (length bs) (reaches (step r b).next bs) is
+reaches r (b ∷ bs) is = grind (arith, reaches (step r b).next bs)
 
 -- one byte more in front of an item that leaves the reader at rest, or the byte that ends it
 rests_more :
@@ -44,10 +34,10 @@ rests_more :
     (ends o ≡ true → (step r b).next ≡ Rest) →
     ((e.kind ≡ Unfinished → ⊥) → run (step r b).next (take e.size bs) ≡ Rest) →
     ((or_else (ending o) e).kind ≡ Unfinished → ⊥) → run r (take (or_else (ending o) e).size (b ∷ bs)) ≡ Rest
-rests_more outcome.Pending r b bs e here later finished = grind (arith, later finished)
+rests_more outcome.Pending r b bs e here later finished = grind (arith, later)
 rests_more outcome.Ignored r b bs e here later finished = here refl
 rests_more (outcome.Complete c) r b bs e here later finished = here refl
-rests_more (outcome.Partial c) r b bs e here later finished = grind (arith, later finished)
+rests_more (outcome.Partial c) r b bs e here later finished = grind (arith, later)
 rests_more (outcome.Faulty f) r b bs e here later finished = here refl
 
 -- an item that is finished leaves the reader at rest
@@ -58,10 +48,7 @@ item_rests r (b ∷ bs) finished =
 
 module _ (bs : List ℕ) (at : ℕ) (p : Part) (next : ℕ) (part : PartAt bs at p next) where
   part_last : p.kind ≡ Unfinished → next ≡ length bs
-  part_last is =
-      let size = reaches Rest (drop at bs) (sym part.kind ∙ is) in
-      let left = length-drop at bs in
-      omega (arith, part.before, part.next_is)
+  part_last is = grind (arith, reaches, length-drop, part.before, part.next_is, part.kind)
 
   part_rests : (p.kind ≡ Unfinished → ⊥) → run Rest (bytes_of p) ≡ Rest
   part_rests finished = ap (run Rest) part.bytes ∙ item_rests Rest (drop at bs) (λ is. finished (part.kind ∙ is))
@@ -78,13 +65,12 @@ split bs at (q ∷ qs) p rs to w =
 -- a walk ends as many bytes further on as its parts have
 walked_long : (bs : List ℕ) (at : ℕ) (qs : List Part) (to : ℕ) → Walked bs at qs to → length (flat_map bytes_of qs) + at ≡ to
 walked_long bs at [] to w = omega (arith, w)
-walked_long bs at (q ∷ qs) to w =
-    omega (arith, length-append (bytes_of q) (flat_map bytes_of qs), walked_long bs w.0 qs to w.2, long bs at q w.0 w.1)
+walked_long bs at (q ∷ qs) to w = grind (arith, length-append, walked_long bs w.0 qs to w.2, long bs at q w.0 w.1)
 
 -- past the end there is no part
 walked_none : (bs : List ℕ) (at : ℕ) (rs : List Part) (to : ℕ) → length bs ≤ at → Walked bs at rs to → rs ≡ []
 walked_none bs at [] to h w = refl
-walked_none bs at (p ∷ rs) to h w = absurd (omega (arith, w.1.before))
+walked_none bs at (p ∷ rs) to h w = grind (arith, w.1.before)
 
 pub whole : (bs : List ℕ) (ps : List Part) → Walked bs 0 ps (length bs) → Whole bs ps
 whole bs ps w = record {
