@@ -42,12 +42,8 @@ drained b s t u ps (same, at) yields end =
 
 joined_from : (bs : List ℕ) (at : ℕ) (ps : List Part) (to : ℕ) → Walked bs at ps to → flat_map bytes_of ps ++ drop to bs ≡ drop at bs
 joined_from bs at [] to e = ap (λ k. drop k bs) (sym e)
-joined_from bs at (p ∷ ps) to w =
-    append_assoc (bytes_of p) (flat_map bytes_of ps) (drop to bs)
-    ∙ ap (λ l. bytes_of p ++ l) (joined_from bs w.0 ps to w.2)
-    ∙ front bs at p w.0 w.1
+joined_from bs at (p ∷ ps) to w = grind (arith, append_assoc, joined_from bs w.0 ps to w.2, front bs at p w.0 w.1)
 
 -- the items of a whole buffer, joined, are the buffer
 pub parts_join : (bs : List ℕ) (ps : List Part) → Walked bs 0 ps (length bs) → flat_map bytes_of ps ≡ bs
-parts_join bs ps w =
-    sym (append-nil _) ∙ ap (λ l. flat_map bytes_of ps ++ l) (sym (drop_all (length bs) bs (omega arith))) ∙ joined_from bs 0 ps (length bs) w
+parts_join bs ps w = grind (arith, append-nil, drop_all, joined_from bs 0 ps (length bs) w)
