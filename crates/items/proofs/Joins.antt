@@ -1,16 +1,22 @@
 -- What the parts handed out so far are, joined.
 -- Assumes nothing.
-use Rattle.std.proofs.Common.{◌≡◌, ℕ, ◌+◌, ◌-◌, ◌<◌, List, [], ◌∷◌, ◌++◌, length, take, drop, IfSome, Some, None, Option, Bor, sym, refl, ap, ◌∙◌, subst, append_assoc, append-nil, arith, length-drop, take-append-drop, length-take-le}
-use Rattle.std.specs.Iterator.{Yields}
+use Rattle.std.proofs.Common.{◌≡◌, ℕ, ◌+◌, ◌≤◌, List, [], ◌∷◌, ◌++◌, length, drop, Bor, sym, ap, ◌∙◌, subst, append_assoc, append-nil, arith, take-append-drop, length-take-le}
+use Rattle.std.specs.Iterator.{Yields, DrainsIf}
 use Rattle.std.specs.List.{flat_map}
 use Rattle.std.proofs.lemmas.List.{drop_all, drop-drop}
+use Rattle.reader.specs.declared.words.Reading.{Reading}
 use Rattle.reader.specs.declared.words.Reading.TheVariants.{Rest}
+use Rattle.reader.specs.Steps.{step}
 use Rattle.items.specs.declared.parts.Part.{Part}
 use Rattle.items.specs.Extents.{extent_of}
 use Rattle.items.specs.declared.parts.Items.{Items}
-use Rattle.items.specs.Hands.{Hands, bytes_left}
+use Rattle.items.specs.Hands.{Hands}
 use Rattle.items.specs.Handed.{PartAt, bytes_of, Walked}
-use Rattle.items.proofs.Extents.{size_within, size_some}
+
+-- an item lies within the bytes
+size_within : (r : Reading) (bs : List ℕ) → (extent_of r bs).size ≤ length bs
+size_within r [] = omega arith
+size_within r (b ∷ bs) = grind (arith, size_within (step r b).next bs)
 
 module _ (bs : List ℕ) (at : ℕ) (p : Part) (next : ℕ) (part : PartAt bs at p next) where
   front : bytes_of p ++ drop next bs ≡ drop at bs
@@ -32,12 +38,12 @@ yields_walked bs s (p ∷ ps) t same (j, h, y) =
 
 -- what a new reader hands out up to the end are all items of the buffer
 pub drained :
-    (b : Bor (List ℕ)) (s t u : Items) (ps : List Part) →
-    (s.buffer ≡ b) × (s.at ≡ 0) → Yields Hands s ps t → Hands t None u → Walked b.now 0 ps (length b.now)
-drained b s t u ps (same, at) yields end =
+    (b : Bor (List ℕ)) (s : Items) (ps : List Part) →
+    (s.buffer ≡ b) × (s.at ≡ 0) → DrainsIf Hands (Unit {0}) s ps → Walked b.now 0 ps (length b.now)
+drained b s ps (same, at) (t, yields, ends) =
     let walked = yields_walked b.now s ps t (ap (λ x. x.now) same) yields in
     let long = ap length walked.1 in
-    let reached : t.at ≡ length b.now = omega (arith, end.item.0, t.ok) in
+    let reached : t.at ≡ length b.now = omega (arith, (ends tt).1.item.0, t.ok) in
     subst (λ n. Walked b.now n ps (length b.now)) at (subst (Walked b.now s.at ps) reached walked.0)
 
 joined_from : (bs : List ℕ) (at : ℕ) (ps : List Part) (to : ℕ) → Walked bs at ps to → flat_map bytes_of ps ++ drop to bs ≡ drop at bs

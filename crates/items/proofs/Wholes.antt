@@ -1,26 +1,22 @@
 -- What the items of a whole buffer are.
 -- Assumes nothing.
-use Rattle.std.proofs.Common.{◌≡◌, ℕ, suc, ◌+◌, ◌≤◌, true, List, [], ◌∷◌, ◌++◌, length, take, drop, Some, None, Option, sym, refl, ap, ◌∙◌, subst, add-one, arith, length-append, length-drop}
+use Rattle.std.proofs.Common.{◌≡◌, ℕ, ◌+◌, ◌≤◌, true, List, [], ◌∷◌, ◌++◌, length, take, drop, Some, None, Option, sym, refl, ap, ◌∙◌, subst, arith, length-append, length-drop}
 use Rattle.std.specs.List.{flat_map}
-use Rattle.std.proofs.lemmas.Bool.{cond_both}
 use Rattle.reader.specs.declared.words.Reading.{Reading}
 use Rattle.reader.specs.declared.words.Reading.TheVariants.{Rest}
 use Rattle.reader.specs.declared.words.Outcome.{Outcome}
 use Rattle.reader.specs.declared.words.Outcome.TheVariants as outcome
-use Rattle.reader.specs.Commands.{is_character}
 use Rattle.reader.specs.Ends.{ends}
 use Rattle.reader.specs.Runs.{run}
 use Rattle.reader.specs.Steps.{step}
 use Rattle.reader.proofs.Stepped.{ended_rests}
-use Rattle.items.specs.declared.kinds.Kind.{Kind}
-use Rattle.items.specs.declared.kinds.Kind.TheVariants.{Character, Command, Ignored, Faulty, Unfinished}
+use Rattle.items.specs.declared.kinds.Kind.TheVariants.{Unfinished}
 use Rattle.items.specs.declared.parts.Extent.{Extent}
 use Rattle.items.specs.declared.parts.Items.{Items}
 use Rattle.items.specs.declared.parts.Part.{Part}
 use Rattle.items.specs.Extents.{ending, extent_of, or_else}
-use Rattle.items.specs.Handed.{bytes_of, PartAt, Walked, Counted, Whole}
+use Rattle.items.specs.Handed.{bytes_of, PartAt, Walked, Whole}
 use Rattle.items.specs.Hands.{Hands, WholeWalk}
-use Rattle.items.proofs.Extents.{size_some}
 use Rattle.items.proofs.Joins.{long, parts_join}
 
 -- an unfinished item reaches to the end
