@@ -1,3 +1,2 @@
-mod Extents
 mod Joins
 mod Wholes

@@ -1,56 +1,28 @@
 -- What the items of a whole buffer are.
 -- Assumes nothing.
-use Rattle.std.proofs.Common.{◌≡◌, ℕ, suc, ◌+◌, ◌≤◌, true, List, [], ◌∷◌, ◌++◌, length, take, drop, Some, None, Option, sym, refl, ap, ◌∙◌, subst, add-one, arith, length-append, length-drop}
+use Rattle.std.proofs.Common.{◌≡◌, ℕ, ◌+◌, ◌≤◌, true, List, [], ◌∷◌, ◌++◌, length, take, drop, Some, None, Option, sym, refl, ap, ◌∙◌, subst, arith, length-append, length-drop}
 use Rattle.std.specs.List.{flat_map}
-use Rattle.std.proofs.lemmas.Bool.{cond_both}
 use Rattle.reader.specs.declared.words.Reading.{Reading}
 use Rattle.reader.specs.declared.words.Reading.TheVariants.{Rest}
 use Rattle.reader.specs.declared.words.Outcome.{Outcome}
 use Rattle.reader.specs.declared.words.Outcome.TheVariants as outcome
-use Rattle.reader.specs.Commands.{is_character}
 use Rattle.reader.specs.Ends.{ends}
 use Rattle.reader.specs.Runs.{run}
 use Rattle.reader.specs.Steps.{step}
 use Rattle.reader.proofs.Stepped.{ended_rests}
-use Rattle.items.specs.declared.kinds.Kind.{Kind}
-use Rattle.items.specs.declared.kinds.Kind.TheVariants.{Character, Command, Ignored, Faulty, Unfinished}
+use Rattle.items.specs.declared.kinds.Kind.TheVariants.{Unfinished}
 use Rattle.items.specs.declared.parts.Extent.{Extent}
 use Rattle.items.specs.declared.parts.Items.{Items}
 use Rattle.items.specs.declared.parts.Part.{Part}
 use Rattle.items.specs.Extents.{ending, extent_of, or_else}
-use Rattle.items.specs.Handed.{bytes_of, PartAt, Walked, Counted, Whole}
+use Rattle.items.specs.Handed.{bytes_of, PartAt, Walked, Whole}
 use Rattle.items.specs.Hands.{Hands, WholeWalk}
-use Rattle.items.proofs.Extents.{size_some}
-use Rattle.items.proofs.Joins.{long, parts_join, walked_more}
-
--- no outcome ends an item as unfinished
-abbrev Finished : Kind → Type 0
-Finished Character = Unit {0}
-Finished Command = Unit {0}
-Finished Ignored = Unit {0}
-Finished Faulty = Unit {0}
-Finished Unfinished = ⊥
-
-abbrev AnyFinished : Option Kind → Type 0
-AnyFinished None = Unit {0}
-AnyFinished (Some k) = Finished k
-
-ending_finished : (o : Outcome) → AnyFinished (ending o)
-ending_finished outcome.Pending = tt
-ending_finished outcome.Ignored = tt
-ending_finished (outcome.Complete c) = cond_both (is_character c) Character Command Finished (λ _. tt) (λ _. tt)
-ending_finished (outcome.Partial c) = tt
-ending_finished (outcome.Faulty f) = tt
-
-or_else_last : (o : Option Kind) (e : Extent) (n : ℕ) → AnyFinished o → (e.kind ≡ Unfinished → e.size ≡ n) → (or_else o e).kind ≡ Unfinished → (or_else o e).size ≡ suc n
-or_else_last (Some k) e n finished h is = absurd (subst Finished is finished)
-or_else_last None e n finished h is = let same = h is in omega arith
+use Rattle.items.proofs.Joins.{long, parts_join}
 
 -- an unfinished item reaches to the end
 reaches : (r : Reading) (bs : List ℕ) → (extent_of r bs).kind ≡ Unfinished → (extent_of r bs).size ≡ length bs
 reaches r [] is = omega arith
-reaches r (b ∷ bs) is =
-    or_else_last (ending (step r b).outcome) _ (length bs) (ending_finished (step r b).outcome) (reaches (step r b).next bs) is
+reaches r (b ∷ bs) is = grind (arith, reaches (step r b).next bs)
 
 -- one byte more in front of an item that leaves the reader at rest, or the byte that ends it
 rests_more :
@@ -58,12 +30,10 @@ rests_more :
     (ends o ≡ true → (step r b).next ≡ Rest) →
     ((e.kind ≡ Unfinished → ⊥) → run (step r b).next (take e.size bs) ≡ Rest) →
     ((or_else (ending o) e).kind ≡ Unfinished → ⊥) → run r (take (or_else (ending o) e).size (b ∷ bs)) ≡ Rest
-rests_more outcome.Pending r b bs e here later finished =
-    subst (λ n. run r (take n (b ∷ bs)) ≡ Rest) (sym (add-one e.size)) (later finished)
+rests_more outcome.Pending r b bs e here later finished = grind (arith, later)
 rests_more outcome.Ignored r b bs e here later finished = here refl
 rests_more (outcome.Complete c) r b bs e here later finished = here refl
-rests_more (outcome.Partial c) r b bs e here later finished =
-    subst (λ n. run r (take n (b ∷ bs)) ≡ Rest) (sym (add-one e.size)) (later finished)
+rests_more (outcome.Partial c) r b bs e here later finished = grind (arith, later)
 rests_more (outcome.Faulty f) r b bs e here later finished = here refl
 
 -- an item that is finished leaves the reader at rest
@@ -74,10 +44,7 @@ item_rests r (b ∷ bs) finished =
 
 module _ (bs : List ℕ) (at : ℕ) (p : Part) (next : ℕ) (part : PartAt bs at p next) where
   part_last : p.kind ≡ Unfinished → next ≡ length bs
-  part_last is =
-      let size = reaches Rest (drop at bs) (sym part.kind ∙ is) in
-      let left = length-drop at bs in
-      omega (arith, part.before, part.next_is)
+  part_last is = grind (arith, reaches, length-drop, part.before, part.next_is, part.kind)
 
   part_rests : (p.kind ≡ Unfinished → ⊥) → run Rest (bytes_of p) ≡ Rest
   part_rests finished = ap (run Rest) part.bytes ∙ item_rests Rest (drop at bs) (λ is. finished (part.kind ∙ is))
@@ -94,13 +61,12 @@ split bs at (q ∷ qs) p rs to w =
 -- a walk ends as many bytes further on as its parts have
 walked_long : (bs : List ℕ) (at : ℕ) (qs : List Part) (to : ℕ) → Walked bs at qs to → length (flat_map bytes_of qs) + at ≡ to
 walked_long bs at [] to w = omega (arith, w)
-walked_long bs at (q ∷ qs) to w =
-    omega (arith, length-append (bytes_of q) (flat_map bytes_of qs), walked_long bs w.0 qs to w.2, long bs at q w.0 w.1)
+walked_long bs at (q ∷ qs) to w = grind (arith, length-append, walked_long bs w.0 qs to w.2, long bs at q w.0 w.1)
 
 -- past the end there is no part
 walked_none : (bs : List ℕ) (at : ℕ) (rs : List Part) (to : ℕ) → length bs ≤ at → Walked bs at rs to → rs ≡ []
 walked_none bs at [] to h w = refl
-walked_none bs at (p ∷ rs) to h w = absurd (omega (arith, w.1.before))
+walked_none bs at (p ∷ rs) to h w = grind (arith, w.1.before)
 
 pub whole : (bs : List ℕ) (ps : List Part) → Walked bs 0 ps (length bs) → Whole bs ps
 whole bs ps w = record {
@@ -122,26 +88,3 @@ none_past s (Some p) t h past = absurd (omega (arith, h.item.before))
 
 pub whole_walk : WholeWalk
 whole_walk = record { whole = whole; then_none = none_past }
-
--- the items that were counted on the way to a place
-pub record Tally (bs : List ℕ) (at n : ℕ) : Type 0 where
-  pub parts : List Part
-  pub walked : Walked bs 0 parts at
-  pub many : n ≡ length parts
-  pub few : n ≤ at
-
-pub tally_none : (bs : List ℕ) → Tally bs 0 0
-tally_none bs = record { parts = []; walked = refl; many = refl; few = omega arith }
-
-pub tally_more : (bs : List ℕ) (at n next : ℕ) (p : Part) → Tally bs at n → PartAt bs at p next → Tally bs next (n + 1)
-tally_more bs at n next p t part = record {
-  parts = t.parts ++ p ∷ [];
-  walked = walked_more bs 0 t.parts at p next t.walked part;
-  many = omega (arith, t.many, length-append t.parts (p ∷ []));
-  few =
-      let left = length-drop at bs in
-      omega (arith, t.few, part.before, part.next_is, size_some Rest (drop at bs) (omega (arith, part.before)));
-}
-
-pub tally_all : (bs : List ℕ) (at n : ℕ) → Tally bs at n → at ≡ length bs → Counted bs n
-tally_all bs at n t end = (t.parts, subst (Walked bs 0 t.parts) end t.walked, t.many)

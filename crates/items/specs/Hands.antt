@@ -11,8 +11,8 @@ pub record Hands (s : Items) (r : Option Part) (t : Items) : Type 0 where
   pub item : MatchOption r ((length s.buffer.now ≤ s.at) × (t.at ≡ s.at)) (λ p. PartAt s.buffer.now s.at p t.at)
 
 -- the bytes that are left
-abbrev pub remaining : Items → ℕ
-remaining s = length s.buffer.now - s.at
+abbrev pub bytes_left : Items → ℕ
+bytes_left s = length s.buffer.now - s.at
 
 -- Every walk over a whole buffer is whole, and at the end of it no further item is handed out.
 pub record WholeWalk : Type 0 where

@@ -2,28 +2,23 @@
 ghost use Rattle.std.specs.Prelude.{◌≡◌};
 ghost use Rattle.items.specs.Kinds.{kind_number};
 
-#[derive(Clone, Copy)]
+#[derive(Clone, Copy, Debug, PartialEq, Eq)]
 pub enum Kind {
-    Character,
-    Command,
+    Character = 1,
+    Command = 2,
     // a byte that is ignored at rest
-    Ignored,
+    Ignored = 3,
     // a malformed command, with the byte that makes it so
-    Faulty,
+    Faulty = 4,
     // the start of a command, at the end of the buffer
-    Unfinished,
+    Unfinished = 5,
 }
 
-impl Kind {
-    pub fn number(self) -> u8
-        ensures { result ≡ kind_number self }
-    {
-        match self {
-            Kind::Character => 1,
-            Kind::Command => 2,
-            Kind::Ignored => 3,
-            Kind::Faulty => 4,
-            Kind::Unfinished => 5,
-        }
+// The number by which it is told.
+impl From<Kind> for u8 {
+    ghost from_gives = { λ kind number. number ≡ kind_number kind };
+
+    fn from(kind: Kind) -> u8 {
+        kind as u8
     }
 }

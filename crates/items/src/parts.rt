@@ -10,7 +10,7 @@ pub(crate) struct Extent {
     pub(crate) kind: Kind,
 }
 
-#[derive(Clone, Copy)]
+#[derive(Clone, Copy, Debug, PartialEq, Eq)]
 pub struct Part<'a> {
     pub place: usize,
     pub kind: Kind,

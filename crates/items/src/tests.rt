@@ -6,13 +6,11 @@ use std::test::Fail;
 
 fn reads(rt: &impl Abort, buffer: &[u8], expected: &[(usize, usize, Kind)]) -> Result<(), Fail> {
     let mut items = Items::new(buffer);
-    for (place, size, kind) in expected {
+    for item in expected {
         let part = items.next().ok_or("an item is missing")?;
-        assert_eq!(rt; part.place, *place);
-        assert_eq!(rt; part.bytes.len(), *size);
-        assert_eq!(rt; part.kind.number(), kind.number());
+        assert_eq!(rt; (part.place, part.bytes.len(), part.kind), *item);
     }
-    assert!(rt; items.next().is_none());
+    assert_eq!(rt; items.next(), None);
     Ok(())
 }
 

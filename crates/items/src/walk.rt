@@ -3,7 +3,7 @@ ghost use Rattle.std.specs.Prelude.{◌≡◌, ◌<◌, ◌≤◌, length, IfOk}
 ghost use Rattle.reader.specs.declared.words.Reading.TheVariants.{Rest};
 ghost use Rattle.items.specs.Extents.{ending, extent_of};
 ghost use Rattle.items.specs.Handed.{Walked, Counted, Whole};
-ghost use Rattle.items.specs.Hands.{Hands, WholeWalk, remaining};
+ghost use Rattle.items.specs.Hands.{Hands, WholeWalk, bytes_left};
 ghost use Rattle.std.specs.Iterator.{at_most};
 
 use crate::kinds::Kind;
@@ -33,8 +33,8 @@ fn extent(bytes: &[u8]) -> Extent
     ensures some { 0 < length bytes.now → 0 < result.size }
 {
     let mut reading = Reading::Rest;
-    for (i, byte) in bytes.iter().enumerate() {
-        let step = reading.take(*byte);
+    for (i, &byte) in bytes.iter().enumerate() {
+        let step = reading.take(byte);
         if let Some(kind) = ended(step.outcome) {
             return Extent { size: i + 1, kind };
         }
@@ -52,32 +52,29 @@ impl<'a> Items<'a> {
     {
         Items { buffer, at: 0 }
     }
-
-    // The item at the place reached, as a part of the buffer; `None` at the end.
-    fn hand_out(&mut self) -> Option<Part<'a>>
-        ensures { Hands self.old result self.new }
-    {
-        if self.at >= self.buffer.len() {
-            return None;
-        }
-        let place = self.at;
-        let rest = &self.buffer[place..];
-        let Extent { size, kind } = extent(rest);
-        let bytes = &rest[0..size];
-        self.at = place + size;
-        Some(Part { place, kind, bytes })
-    }
 }
 
 impl<'a> Iterator for Items<'a> {
     type Item = Part<'a>;
 
-    ghost next_gives = { λ s r t. Hands s r t };
+    ghost next_gives = { Hands };
 
-    ghost remaining = { λ s. at_most (remaining s) };
+    ghost remaining = { λ s. at_most (bytes_left s) };
 
+    // The item at the place reached, as a part of the buffer; `None` at the end.
     fn next(&mut self) -> Option<Part<'a>> {
-        self.hand_out()
+        let place = self.at;
+        let rest = &self.buffer[place..];
+        if rest.is_empty() {
+            return None;
+        }
+        let Extent { size, kind } = extent(rest);
+        self.at += size;
+        Some(Part {
+            place,
+            kind,
+            bytes: &rest[..size],
+        })
     }
 }
 
@@ -87,11 +84,7 @@ pub fn walk<'a>(heap: Global, buffer: &'a [u8]) -> Result<Vec<Part<'a>>, AllocEr
     ensures whole { IfOk result (λ v. Whole buffer.now v.items) }
     ensures always { WholeWalk }
 {
-    let mut out = Vec::new(heap);
-    for part in Items::new(buffer) {
-        out.push(part)?;
-    }
-    Ok(out)
+    Items::new(buffer).collect(heap)
 }
 
 // How many items a buffer has, by a walk that keeps none of them.
@@ -99,9 +92,5 @@ pub fn count(buffer: &[u8]) -> usize
     ensures items { Counted buffer.now result }
     ensures always { WholeWalk }
 {
-    let mut n = 0;
-    for _ in Items::new(buffer) {
-        n += 1;
-    }
-    n
+    Items::new(buffer).count()
 }

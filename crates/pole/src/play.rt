@@ -105,7 +105,7 @@ impl<'r, 'a> Play<'r, 'a> {
         for part in parts.iter() {
             let place = part.place;
             let length = part.bytes.len();
-            let kind = part.kind.number();
+            let kind = u8::from(part.kind);
             println!(self.rt; "item {place} {length} {kind}")?;
         }
         println!(self.rt; "end")?;
