@@ -8,7 +8,8 @@ use Rattle.panel.proofs.Puts.{reached_one}
 use Rattle.strip.specs.declared.strip.Change.{Change}
 use Rattle.strip.specs.declared.strip.StripPanel.{StripPanel}
 use Rattle.strip.specs.Strip.{picture_of, waiting_of, merged, Puts, Appends, Overflows, Writes}
-use Rattle.strip.specs.Waiting.{puts_of, Grown, Overran, Kept, KeepsWaiting}
+use Rattle.strip.specs.Laws.{strip}
+use Rattle.strip.specs.Waiting.{Grown, Overran, Kept, KeepsWaiting}
 
 -- which of the three cases of a put it was
 cases : {Z : Type 0} (s t : StripPanel) (c : Change) → Puts s c t → (Appends s c t → Z) → (Overflows s c t → Z) → (Writes s c t → Z) → Z
@@ -21,7 +22,7 @@ put_capacity s t c h =
     cases s t c h (λ a. ap length a.places ∙ length-set _ _ _) (λ o. ap length o.places ∙ length-set _ _ _) (λ w. ap length w.places)
 
 -- one put more
-module _ (s q r : StripPanel) (k v : ℕ) (on : k < 40) (way : Reached puts_of s q) (h : puts_of q k v r) where
+module _ (s q r : StripPanel) (k v : ℕ) (on : k < 40) (way : Reached strip.puts s q) (h : strip.puts q k v r) where
   appended : Appends q (record { place = k; cell = v }) r → Grown s q ⊎ Overran s q → Grown s r ⊎ Overran s r
   appended a (inl g) =
       inl (record {

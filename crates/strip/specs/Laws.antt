@@ -4,8 +4,8 @@ use Rattle.std.proofs.Common.{sym, ap, ◌∙◌, ⊎_elim, arith}
 use Rattle.std.proofs.lemmas.List.{length-set, length-take, nil_from_length}
 use Rattle.std.proofs.lemmas.Bool.{cases_lt}
 use Rattle.list.specs.Entries.{places, capacity}
-use Rattle.panel.specs.Laws.{Laws}
-use Rattle.strip.specs.Forty.{forty_length}
+use Rattle.panel.specs.Forty.{forty_length}
+use Rattle.panel.specs.Laws.{Make, Laws}
 use Rattle.strip.specs.declared.strip.Change.{Change}
 use Rattle.strip.specs.declared.strip.StripPanel.{StripPanel}
 use Rattle.strip.specs.Strip.{picture_of, waiting_of, merged, cells_of, Puts, Paints}
@@ -43,7 +43,11 @@ putting s t c h = ⊎_elim room (λ f. ⊎_elim (full f) empty (cases_lt 0 (capa
 painting : (s t : StripPanel) → Paints s t → cells_of t ≡ cells_of s
 painting s t h = merges t (cells_of s) [] h.picture h.none
 
-pub strip_laws : Laws cells_of (λ s k v t. Puts s (record { place = k; cell = v }) t) (λ s t. Paints s t)
+-- what a strip panel means, as the panels' interface has it
+abbrev pub strip : Make StripPanel
+strip = record { cells = cells_of; puts = λ s k v t. Puts s (record { place = k; cell = v }) t; paints = λ s t. Paints s t }
+
+pub strip_laws : Laws strip
 strip_laws = record {
   forty = λ s. merged_length (picture_of s) (waiting_of s) ∙ forty_length s.picture.held;
   putting = λ s t k v h. putting s t (record { place = k; cell = v }) h;
