@@ -81,26 +81,26 @@ placed s m t c r a =
     full : capacity s.changes ≤ length (waiting_of s) → 0 < capacity s.changes → Overflows s c t
     full f some =
         let e = r.full f in
-        let none : length (waiting_of m) ≡ 0 = ap length e.1 in
-        let same : capacity m.changes ≡ capacity s.changes = ap length e.3 in
+        let none : length (waiting_of m) ≡ 0 = ap length e.none in
+        let same : capacity m.changes ≡ capacity s.changes = ap length e.places in
         let b = a.room (omega (arith, none, same, some)) in
         record {
-          picture = b.picture ∙ e.0;
-          waiting = b.waiting ∙ ap (λ cs. cs ++ c ∷ []) e.1;
-          flag = b.flag ∙ e.2;
-          places = b.places ∙ ap (λ n. set (places m.changes) n c) none ∙ ap (λ ps. set ps 0 c) e.3;
+          picture = b.picture ∙ e.picture;
+          waiting = b.waiting ∙ ap (λ cs. cs ++ c ∷ []) e.none;
+          flag = b.flag ∙ e.flag;
+          places = b.places ∙ ap (λ n. set (places m.changes) n c) none ∙ ap (λ ps. set ps 0 c) e.places;
         }
 
     empty : capacity s.changes ≡ 0 → Writes s c t
     empty zero =
         let e = r.full (omega arith) in
-        let same : capacity m.changes ≡ capacity s.changes = ap length e.3 in
+        let same : capacity m.changes ≡ capacity s.changes = ap length e.places in
         let b = a.full (omega (arith, same, zero)) in
         record {
-          picture = b.0 ∙ ap (λ p. set p c.place c.cell) (e.0 ∙ ap (merged (picture_of s)) (none_waits s zero));
-          waiting = ap entries b.1 ∙ e.1;
-          flag = b.2 ∙ e.2;
-          places = ap places b.1 ∙ e.3;
+          picture = b.0 ∙ ap (λ p. set p c.place c.cell) (e.picture ∙ ap (merged (picture_of s)) (none_waits s zero));
+          waiting = ap entries b.1 ∙ e.none;
+          flag = b.2 ∙ e.flag;
+          places = ap places b.1 ∙ e.places;
         }
 
 -- the latest change for a place is the first that names it from the end of the list

@@ -24,7 +24,7 @@ impl StripPanel<'_> {
 
     // Takes the changes in order into the picture, and empties the list.
     fn merge(&mut self)
-        ensures { Merged self.old self.new }
+        ensures { Merged self.old self.old.all self.new }
     {
         for &Change { place, cell } in self.changes.as_slice() {
             let _ = self.picture.put(place, cell);
@@ -66,6 +66,7 @@ impl<'a> Panel for StripPanel<'a> {
         Ok(())
     }
 
+    #[tactic(auto, using(crate::proofs::Steps::latest_holds))]
     fn look(&self, place: usize) -> Result<u64, PanelRefusal>
         ensures cell { result ≡ (if nat_lt place 40 then Ok (slice_index (cells_of self.now) place) else Err PanelRefusal.OffGlass) }
         ensures latest { Latest }

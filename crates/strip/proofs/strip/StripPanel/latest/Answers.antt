@@ -3,7 +3,7 @@ use Rattle.std.proofs.lemmas.Iterator.Adapters.{YieldsList-from_rev_slice}
 use Rattle.std.proofs.lemmas.Iterator.Search.{find_from_yields_List}
 use Rattle.std.specs.List.{find}
 use Rattle.std.specs.Option.{option_map}
-use borrow.Author.Tests as Tests
+use borrow.Author.Tests.{tests}
 use Rattle.strip.specs.declared.strip.Change.{Change}
 use Rattle.strip.specs.Strip.{waiting_of}
 use Rattle.strip.proofs.Steps.{latest_found}
@@ -13,4 +13,4 @@ pub returns : goal.returns
 returns c =
     let cs = waiting_of c.args.self.now in
     let mapped : c.map.result ≡ option_map (λ b. b.now.cell) c.find.result = search rules in
-    mapped ∙ latest_found c.args.place cs c.find.result (find_from_yields_List (λ (x : Change). eqb x.place c.args.place) _ _ c.find.result c.find.ensures.ran (YieldsList-from_rev_slice cs cc) (λ x b q k. search (rules, Tests.tests)))
+    mapped ∙ latest_found c.args.place cs c.find.result (find_from_yields_List (λ (x : Change). eqb x.place c.args.place) _ _ c.find.result c.find.ensures.ran (YieldsList-from_rev_slice cs cc) (λ x b q k. search (rules, tests)))
