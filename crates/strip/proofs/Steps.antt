@@ -1,22 +1,17 @@
 -- Changes one by one.
-use Rattle.std.proofs.Common.{◌≡◌, ℕ, ◌+◌, ◌-◌, ◌<◌, ◌≤◌, Bool, true, false, cond, eqb, ltb, List, [], ◌∷◌, ◌++◌, length, get_or, take, reverse, set, is_err, Some, None, Ok, Err, Option, Result, sym, refl, ap, ◌∙◌, subst, ⊎_elim, Bor, arith}
-use Rattle.std.specs.List.{slice_get, find}
+use Rattle.std.proofs.Common.{◌≡◌, ℕ, ◌+◌, ◌<◌, ◌≤◌, Bool, true, false, cond, eqb, List, [], ◌∷◌, ◌++◌, length, get_or, take, reverse, set, Some, None, Option, sym, refl, ap, ◌∙◌, subst, ⊎_elim, Bor, arith}
+use Rattle.std.specs.List.{find}
 use Rattle.std.proofs.lemmas.List.{take_more, get_or-set_same, get_or-set_other, length-set, set_past}
 use Rattle.std.proofs.lemmas.Grind.{reverse_onto}
 use Rattle.std.proofs.lemmas.List.Folds.{find-append}
-use Rattle.std.proofs.lemmas.Option.{slice_get-get_or, slice_get_past}
-use Rattle.std.proofs.lemmas.Bool.{cases_lt, cases_eq, eq-eqb, ne_eqb, lt-ltb, cond-true, cond-false, false≢true}
-use Rattle.list.specs.declared.list.ListRefusal.{ListRefusal}
-use Rattle.list.specs.declared.list.ListRefusal.TheVariants.{Full}
+use Rattle.std.proofs.lemmas.Bool.{cases_lt, cases_eq, eq-eqb, ne_eqb, cond-true, cond-false}
 use Rattle.list.specs.Entries.{entries, places, capacity}
-use Rattle.panel.specs.declared.panel.PanelRefusal.{PanelRefusal}
-use Rattle.panel.specs.declared.panel.PanelRefusal.TheVariants.{OffGlass}
 use Rattle.strip.specs.declared.strip.Change.{Change}
 use Rattle.strip.specs.declared.strip.StripPanel.{StripPanel}
 use Rattle.panel.specs.Forty.{forty_length}
 use Rattle.panel.specs.Plain.{plain_cells}
 use Rattle.panel.specs.declared.plain.PlainPanel.{PlainPanel}
-use Rattle.strip.specs.Strip.{picture_of, waiting_of, merged, cells_of, Appends, Overflows, Writes, Roomed, Added, Puts}
+use Rattle.strip.specs.Strip.{picture_of, waiting_of, merged, Appends, Overflows, Writes, Roomed, Added, Puts}
 use Rattle.std.specs.Option.{option_map, option_or, unwrap_or}
 use Rattle.strip.specs.Latest.{latest, Latest}
 use Rattle.strip.specs.Laws.{merged_push, none_waits}
@@ -46,9 +41,6 @@ latest_cell p (c ∷ cs) k h =
     latest_cell (set p c.place c.cell) cs k (omega (arith, length-set p c.place c.cell))
     ∙ ⊎_elim same other (cases_eq c.place k)
   where
-    q : ℕ
-    q = get_or (set p c.place c.cell) k 0
-
     join : (o : Option ℕ) (b : Option ℕ) (v : ℕ) → v ≡ unwrap_or b (get_or p k 0) → unwrap_or o v ≡ unwrap_or (option_or o b) (get_or p k 0)
     join None b v e = e
     join (Some w) b v e = refl
@@ -65,10 +57,6 @@ latest_cell p (c ∷ cs) k h =
 
 pub latest_holds : Latest
 latest_holds s k h = latest_cell (picture_of s) (waiting_of s) k (omega (arith, forty_length s.picture.held))
-
--- an append is refused on a full list
-pub stuck : (a b : ℕ) (r : Result (Unit {0}) ListRefusal) → r ≡ cond (ltb a b) (Ok tt) (Err Full) → is_err r ≡ true → b ≤ a
-stuck a b r e t = ⊎_elim (λ l. absurd (false≢true (sym (ap is_err (e ∙ cond-true (ltb a b) (Ok tt) (Err Full) (lt-ltb a b l))) ∙ t))) (λ l. l) (cases_lt a b)
 
 -- A put makes room, and then adds the change.
 pub placed : (s m t : StripPanel) (c : Change) → Roomed s m → Added m c t → Puts s c t

@@ -1,7 +1,6 @@
 -- Puts alone lose nothing that waits, unless they raise the flag.
-use Rattle.std.proofs.Common.{◌≡◌, ℕ, ◌<◌, ◌⊎◌, [], ◌∷◌, ◌++◌, length, sym, refl, ap, ◌∙◌, inl, inr, ⊎_elim, append_assoc, arith}
+use Rattle.std.proofs.Common.{◌≡◌, ℕ, ◌<◌, ◌⊎◌, [], ◌∷◌, ◌++◌, length, sym, refl, ap, ◌∙◌, inl, inr, append_assoc}
 use Rattle.std.proofs.lemmas.List.{append-nil, length-set}
-use Rattle.std.proofs.lemmas.Bool.{cases_lt}
 use Rattle.list.specs.Entries.{capacity}
 use Rattle.panel.specs.Laws.{Reached, none, more}
 use Rattle.panel.proofs.Puts.{reached_one}

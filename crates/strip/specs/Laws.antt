@@ -1,5 +1,5 @@
 -- The laws of a panel, at the strip panel.
-use Rattle.std.specs.Prelude.{◌≡◌, ℕ, ◌<◌, ◌≤◌, List, [], ◌∷◌, ◌++◌, length, slice_set, refl}
+use Rattle.std.specs.Prelude.{◌≡◌, ℕ, List, [], ◌∷◌, ◌++◌, length, slice_set, refl}
 use Rattle.std.proofs.Common.{sym, ap, ◌∙◌, ⊎_elim, arith}
 use Rattle.std.proofs.lemmas.List.{length-set, length-take, nil_from_length}
 use Rattle.std.proofs.lemmas.Bool.{cases_lt}
@@ -39,8 +39,8 @@ putting s t c h =
     (λ a. merges t (picture_of s) (waiting_of s ++ c ∷ []) a.picture a.waiting ∙ merged_push (picture_of s) (waiting_of s) c)
     (λ o. merges t (cells_of s) (c ∷ []) o.picture o.waiting)
     (λ w z.
-      merges t (slice_set (picture_of s) c.place c.cell) [] w.picture w.waiting
-      ∙ ap (λ cs. slice_set (merged (picture_of s) cs) c.place c.cell) (sym (none_waits s z)))
+    merges t (slice_set (picture_of s) c.place c.cell) [] w.picture w.waiting
+    ∙ ap (λ cs. slice_set (merged (picture_of s) cs) c.place c.cell) (sym (none_waits s z)))
 
 painting : (s t : StripPanel) → Paints s t → cells_of t ≡ cells_of s
 painting s t h = merges t (cells_of s) [] h.picture h.none

@@ -1,5 +1,5 @@
 -- What is left of a strip panel after puts alone, any number of them.
-use Rattle.std.specs.Prelude.{◌≡◌, ℕ, true, ◌⊎◌, List, ◌++◌}
+use Rattle.std.specs.Prelude.{◌≡◌, true, ◌⊎◌, List, ◌++◌}
 use Rattle.list.specs.Entries.{capacity}
 use Rattle.panel.specs.Laws.{Reached}
 use Rattle.strip.specs.declared.strip.Change.{Change}

@@ -1,7 +1,6 @@
-use Rattle.std.proofs.Common.{◌≡◌, Option, eqb, reverse, rules, sym, ap, ◌∙◌}
+use Rattle.std.proofs.Common.{◌≡◌, eqb, rules, ◌∙◌}
 use Rattle.std.proofs.lemmas.Iterator.Adapters.{YieldsList-from_rev_slice}
 use Rattle.std.proofs.lemmas.Iterator.Search.{find_from_yields_List}
-use Rattle.std.specs.List.{find}
 use Rattle.std.specs.Option.{option_map}
 use borrow.Author.Tests.{tests}
 use Rattle.strip.specs.declared.strip.Change.{Change}

@@ -1,6 +1,6 @@
 use Rattle.std.proofs.Common.{◌≡◌, take}
 use Rattle.panel.specs.Plain.{plain_cells}
-use Rattle.strip.specs.Strip.{picture_of, waiting_of, merged}
+use Rattle.strip.specs.Strip.{merged}
 use Rattle.strip.proofs.strip.StripPanel.merge.Given as goal
 
 abbrev pub invariant-loop-place : goal.invariant-loop-place
