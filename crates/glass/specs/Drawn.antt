@@ -17,7 +17,7 @@ seen a g x y = cond (inside a x y) (slice_index g (place x y)) blank
 abbrev pub inked : Ink → (ℕ → ℕ → ℕ) → ℕ → ℕ → ℕ
 inked Blank look x y = blank
 inked (BlankRow r) look x y = cond (y == r) blank (look x y)
-inked (Write c r v) look x y = cond (x == c && y == r) v (look x y)
+inked (Write p v) look x y = cond (x == p.column && y == p.row) v (look x y)
 inked (ShiftLeft r) look x y = cond (y == r) (look (x + 1) y) (look x y)
 inked (ShiftRight r) look x y = cond (y == r) (look (x - 1) y) (look x y)
 inked ScrollUp look x y = look x (y + 1)

@@ -2,6 +2,9 @@
 ghost use Rattle.std.specs.Prelude.{◌≡◌};
 ghost use Rattle.glass.specs.Places.{holds, lawful, apart, place_at};
 
+// How many places the glass has.
+pub const PLACES: usize = 40;
+
 // A column and a row of the glass, or beside it.
 #[derive(Clone, Copy, Debug, PartialEq, Eq)]
 pub struct Position {

@@ -1,12 +1,15 @@
 // What is drawn on the glass, as data.
-use crate::area::Area;
+use crate::area::{Area, Position};
+
+// The cell of a place where nothing is written.
+pub const BLANK: u64 = 32;
 
 // What a stroke does inside its area. A blank comes in where a cell would come from outside the area.
 #[derive(Clone, Copy, Debug, PartialEq, Eq)]
 pub enum Ink {
     Blank,
     BlankRow { row: u8 },
-    Write { column: u8, row: u8, cell: u64 },
+    Write { at: Position, cell: u64 },
     ShiftLeft { row: u8 },
     ShiftRight { row: u8 },
     ScrollUp,

@@ -1,11 +1,15 @@
 -- Equality of answers, as `==` finds it.
-use Rattle.std.proofs.Common.{◌≡◌, Bool, true, false, Ok, Err, Result, Decides, sym, ap, rules}
+use Rattle.std.proofs.Common.{◌≡◌, Bool, true, false, Some, None, Option, Ok, Err, Result, Decides, sym, ap, rules}
 use Rattle.std.proofs.lemmas.Bool.{true≢false}
+use Rattle.std.specs.Option.{option_eq}
 use Rattle.std.specs.Result.{result_eq}
 use mathlib.Core.Bool.{beq}
 use Rattle.std.proofs.lemmas.Bool.Decides.{Decides-eqb, Decides-and, Decides-like}
 use Rattle.reader.specs.declared.words.Mode.{Mode}
 use Rattle.reader.specs.declared.words.Mode.TheVariants.{Overwrite, Vertical, Horizontal}
+use Rattle.reader.specs.declared.words.Slot.{Slot}
+use Rattle.reader.specs.declared.words.Slot.TheVariants.{First, Second, Third, Fourth}
+use Rattle.reader.specs.contracts.words.SlotPartialEq.TheImpl as slot_eq
 use Rattle.reader.specs.contracts.words.ModePartialEq.TheImpl as mode_eq
 use Rattle.state.specs.declared.controller.questions.Modes as modes
 use Rattle.state.specs.contracts.controller.questions.ModesPartialEq.TheImpl as modes_eq
@@ -25,6 +29,13 @@ mode_decides Overwrite b = search rules
 mode_decides Vertical b = search rules
 mode_decides Horizontal b = search rules
 
+window_decides : (a b : Option Slot) → Decides (option_eq slot_eq.ghosts.eq a b) (a ≡ b)
+window_decides None b = search rules
+window_decides (Some First) b = search rules
+window_decides (Some Second) b = search rules
+window_decides (Some Third) b = search rules
+window_decides (Some Fourth) b = search rules
+
 flag_decides : (a b : Bool) → Decides (beq a b) (a ≡ b)
 flag_decides true b = search rules
 flag_decides false b = search rules
@@ -32,7 +43,7 @@ flag_decides false b = search rules
 pub modes_decide : (a b : modes.Modes) → Decides (modes_eq.ghosts.eq a b) (a ≡ b)
 modes_decide a b =
     Decides-like _ (λ h i. record { mode = h.0 i; window = h.1.0 i; cursor = h.1.1.0 i; user = h.1.1.1.0 i; recording = h.1.1.1.1.0 i; playing = h.1.1.1.1.1.0 i; selected = h.1.1.1.1.1.1.0 i; blink = h.1.1.1.1.1.1.1.0 i; table = h.1.1.1.1.1.1.1.1.0 i; set = h.1.1.1.1.1.1.1.1.1.0 i; brightness = h.1.1.1.1.1.1.1.1.1.1 i }) (λ e. (ap (λ m. m.mode) e, (ap (λ m. m.window) e, (ap (λ m. m.cursor) e, (ap (λ m. m.user) e, (ap (λ m. m.recording) e, (ap (λ m. m.playing) e, (ap (λ m. m.selected) e, (ap (λ m. m.blink) e, (ap (λ m. m.table) e, (ap (λ m. m.set) e, (ap (λ m. m.brightness) e))))))))))))
-    (Decides-and _ _ (mode_decides a.mode b.mode) (Decides-and _ _ (Decides-eqb a.window b.window) (Decides-and _ _ (flag_decides a.cursor b.cursor) (Decides-and _ _ (flag_decides a.user b.user) (Decides-and _ _ (flag_decides a.recording b.recording) (Decides-and _ _ (flag_decides a.playing b.playing) (Decides-and _ _ (flag_decides a.selected b.selected) (Decides-and _ _ (Decides-eqb a.blink b.blink) (Decides-and _ _ (Decides-eqb a.table b.table) (Decides-and _ _ (Decides-eqb a.set b.set) (Decides-eqb a.brightness b.brightness)))))))))))
+    (Decides-and _ _ (mode_decides a.mode b.mode) (Decides-and _ _ (window_decides a.window b.window) (Decides-and _ _ (flag_decides a.cursor b.cursor) (Decides-and _ _ (flag_decides a.user b.user) (Decides-and _ _ (flag_decides a.recording b.recording) (Decides-and _ _ (flag_decides a.playing b.playing) (Decides-and _ _ (flag_decides a.selected b.selected) (Decides-and _ _ (Decides-eqb a.blink b.blink) (Decides-and _ _ (Decides-eqb a.table b.table) (Decides-and _ _ (Decides-eqb a.set b.set) (Decides-eqb a.brightness b.brightness)))))))))))
 
 pub answers_decide : (a b : Answer) → Decides (answer_eq.ghosts.eq a b) (a ≡ b)
 answers_decide (Cell x) b = search rules

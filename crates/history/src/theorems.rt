@@ -7,22 +7,16 @@ use panel::Panel;
 
 // Every display shows what the rules say of its settings, bytes and ticks, and nothing else: over panels of any two
 // makes, in any pieces, from the recall on, and inside the current window.
-pub fn history_holds<P: Panel, Q: Panel>() -> u8
+pub fn history_holds<P: Panel, Q: Panel>()
     ensures { History P.make Q.make }
-{
-    0
-}
+{}
 
 // A malformed command is dropped, the host's or the macro's, and a refused one changes nothing.
-pub fn malformed_holds() -> u8
+pub fn malformed_holds()
     ensures { Malformed }
-{
-    0
-}
+{}
 
 // A recording, a macro, the windows and the cursor stay within their bounds in every life.
-pub fn bounds_hold<P: Panel>() -> u8
+pub fn bounds_hold<P: Panel>()
     ensures { Bounds P.make }
-{
-    0
-}
+{}

@@ -113,9 +113,9 @@ blank_whole g l =
 
 -- the stroke that writes a cell
 
-pub drawn_cell : (a : Area) (x y v : ℕ) (g : List ℕ) → length g ≡ 40 → inside a x y ≡ true → written x y v g ≡ drawn (record { area = a; ink = Write x y v }) g
+pub drawn_cell : (a : Area) (x y v : ℕ) (g : List ℕ) → length g ≡ 40 → inside a x y ≡ true → written x y v g ≡ drawn (record { area = a; ink = Write (record { column = x; row = y }) v }) g
 drawn_cell a x y v g l h =
-    cond-true (holds whole x y) (set g p v) g w ∙ redraw_is (within a) (λ k. inked (Write x y v) (seen a g) (column k) (line k)) g (set g p v) (length-set g p v) picked left
+    cond-true (holds whole x y) (set g p v) g w ∙ redraw_is (within a) (λ k. inked (Write (record { column = x; row = y }) v) (seen a g) (column k) (line k)) g (set g p v) (length-set g p v) picked left
   where
     p : ℕ
     p = place x y
@@ -126,15 +126,15 @@ drawn_cell a x y v g l h =
     low : p < length g
     low = let b = on_glass x y w in omega arith
 
-    picked : (k : ℕ) → k < length g → within a k ≡ true → get_or (set g p v) k 0 ≡ inked (Write x y v) (seen a g) (column k) (line k)
+    picked : (k : ℕ) → k < length g → within a k ≡ true → get_or (set g p v) k 0 ≡ inked (Write (record { column = x; row = y }) v) (seen a g) (column k) (line k)
     picked k lt e = ⊎_elim here there (cases_eq k p)
       where
-        here : k ≡ p → get_or (set g p v) k 0 ≡ inked (Write x y v) (seen a g) (column k) (line k)
+        here : k ≡ p → get_or (set g p v) k 0 ≡ inked (Write (record { column = x; row = y }) v) (seen a g) (column k) (line k)
         here q =
             ap (λ j. get_or (set g p v) j 0) q ∙ get_or-set_same g p v 0 low
             ∙ sym (cond-true _ _ _ (and_from _ _ (eq-eqb (column k) x (ap column q ∙ column_place x y w)) (eq-eqb (line k) y (ap line q ∙ line_place x y w))))
 
-        there : (k ≡ p → ⊥) → get_or (set g p v) k 0 ≡ inked (Write x y v) (seen a g) (column k) (line k)
+        there : (k ≡ p → ⊥) → get_or (set g p v) k 0 ≡ inked (Write (record { column = x; row = y }) v) (seen a g) (column k) (line k)
         there n =
             get_or-set_other g p k v 0 n ∙ sym (seen_here a g k e)
             ∙ sym (cond-false _ _ _ (⊎_elim

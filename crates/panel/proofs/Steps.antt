@@ -16,7 +16,7 @@ use Rattle.panel.proofs.Glass.{on_glass, place_column, whole_holds, seen_at, see
 untouched : (ink : Ink) (look : ℕ → ℕ → ℕ) (x y : ℕ) → touches ink x y ≡ false → inked ink look x y ≡ look x y
 untouched Blank look x y e = absurd (true≢false e)
 untouched (BlankRow r) look x y e = cond-false (eqb y r) blank (look x y) e
-untouched (Write c r v) look x y e = cond-false (eqb x c && eqb y r) v (look x y) e
+untouched (Write p v) look x y e = cond-false (eqb x p.column && eqb y p.row) v (look x y) e
 untouched (ShiftLeft r) look x y e = cond-false (eqb y r) (look (x + 1) y) (look x y) e
 untouched (ShiftRight r) look x y e = cond-false (eqb y r) (look (x - 1) y) (look x y) e
 untouched ScrollUp look x y e = absurd (true≢false e)
@@ -118,7 +118,7 @@ drawn_none s g c r only e =
 abbrev source : Ink → ℕ → ℕ
 source Blank k = k
 source (BlankRow r) k = k
-source (Write c r v) k = k
+source (Write p v) k = k
 source (ShiftLeft r) k = place (column k + 1) (line k)
 source (ShiftRight r) k = place (column k - 1) (line k)
 source ScrollUp k = place (column k) (line k + 1)
@@ -127,7 +127,7 @@ source ScrollDown k = place (column k) (line k - 1)
 source_rises : (ink : Ink) (k : ℕ) → rises ink ≡ true → k ≤ source ink k
 source_rises Blank k e = omega arith
 source_rises (BlankRow r) k e = omega arith
-source_rises (Write c r v) k e = omega arith
+source_rises (Write p v) k e = omega arith
 source_rises (ShiftLeft r) k e = grind (arith, nat_tests)
 source_rises (ShiftRight r) k e = absurd (true≢false (sym e))
 source_rises ScrollUp k e = grind (arith, nat_tests)
@@ -136,7 +136,7 @@ source_rises ScrollDown k e = absurd (true≢false (sym e))
 source_falls : (ink : Ink) (k : ℕ) → falls ink ≡ true → source ink k ≤ k
 source_falls Blank k e = omega arith
 source_falls (BlankRow r) k e = omega arith
-source_falls (Write c r v) k e = omega arith
+source_falls (Write p v) k e = omega arith
 source_falls (ShiftLeft r) k e = absurd (true≢false (sym e))
 source_falls (ShiftRight r) k e = grind (arith, nat_tests)
 source_falls ScrollUp k e = absurd (true≢false (sym e))
@@ -153,7 +153,7 @@ cell_near ink a g h k here there = go ink there
     go : (i : Ink) → get_or g (source i k) 0 ≡ get_or h (source i k) 0 → inked i (seen a g) (column k) (line k) ≡ inked i (seen a h) (column k) (line k)
     go Blank e = refl
     go (BlankRow r) e = ap (cond (eqb (line k) r) blank) own
-    go (Write c r v) e = ap (cond (eqb (column k) c && eqb (line k) r) v) own
+    go (Write p v) e = ap (cond (eqb (column k) p.column && eqb (line k) p.row) v) own
     go (ShiftLeft r) e = λ i. cond (eqb (line k) r) (seen_at a g h (column k + 1) (line k) (λ _. e) i) (own i)
     go (ShiftRight r) e = λ i. cond (eqb (line k) r) (seen_at a g h (column k - 1) (line k) (λ _. e) i) (own i)
     go ScrollUp e = seen_at a g h (column k) (line k + 1) (λ _. e)

@@ -10,7 +10,7 @@ use Rattle.glass.specs.Drawn.{seen, inked}
 abbrev pub touches : Ink → ℕ → ℕ → Bool
 touches Blank x y = true
 touches (BlankRow r) x y = y == r
-touches (Write c r v) x y = x == c && y == r
+touches (Write p v) x y = x == p.column && y == p.row
 touches (ShiftLeft r) x y = y == r
 touches (ShiftRight r) x y = y == r
 touches ScrollUp x y = true
@@ -20,7 +20,7 @@ touches ScrollDown x y = true
 abbrev pub rises : Ink → Bool
 rises Blank = true
 rises (BlankRow r) = true
-rises (Write c r v) = true
+rises (Write p v) = true
 rises (ShiftLeft r) = true
 rises (ShiftRight r) = false
 rises ScrollUp = true
@@ -30,7 +30,7 @@ rises ScrollDown = false
 abbrev pub falls : Ink → Bool
 falls Blank = true
 falls (BlankRow r) = true
-falls (Write c r v) = true
+falls (Write p v) = true
 falls (ShiftLeft r) = false
 falls (ShiftRight r) = true
 falls ScrollUp = false

@@ -6,12 +6,8 @@ ghost use Rattle.panel.specs.Laws.{Drew};
 ghost use Rattle.panel.specs.Steps.{touches, rises, falls, Only, stepped, written};
 
 use crate::panel::Panel;
-use glass::area::{Area, Position};
-use glass::stroke::{Ink, Stroke};
-
-const PLACES: usize = 40;
-
-const BLANK: u64 = 32;
+use glass::area::{Area, PLACES, Position};
+use glass::stroke::{BLANK, Ink, Stroke};
 
 fn position(place: usize) -> Position
     requires { place < 40 }
@@ -37,7 +33,7 @@ fn touches(ink: Ink, at: Position) -> bool
     match ink {
         Ink::Blank | Ink::ScrollUp | Ink::ScrollDown => true,
         Ink::BlankRow { row } | Ink::ShiftLeft { row } | Ink::ShiftRight { row } => at.row == row,
-        Ink::Write { column, row, .. } => at == Position { column, row },
+        Ink::Write { at: only, .. } => at == only,
     }
 }
 
@@ -45,14 +41,12 @@ fn touches(ink: Ink, at: Position) -> bool
 fn seen<P: Panel>(panel: &P, area: Area, at: Position) -> u64
     ensures { result ≡ seen area (P.make.cells panel.now) at.column at.row }
 {
-    if area.holds(at) {
-        if let Some(place) = at.place() {
-            if let Ok(cell) = panel.look(place) {
-                return cell;
-            }
-        }
+    if !area.holds(at) {
+        return BLANK;
     }
-    BLANK
+    at.place()
+        .and_then(|place| panel.look(place).ok())
+        .unwrap_or(BLANK)
 }
 
 // What the stroke leaves at a position.
@@ -64,11 +58,7 @@ fn inked<P: Panel>(panel: &P, stroke: Stroke, at: Position) -> u64
     let from = match stroke.ink {
         Ink::Blank => return BLANK,
         Ink::BlankRow { row: only } if row == only => return BLANK,
-        Ink::Write {
-            column: x,
-            row: y,
-            cell,
-        } if column == x && row == y => return cell,
+        Ink::Write { at: only, cell } if at == only => return cell,
         Ink::ShiftLeft { row: only } if row == only => Position {
             column: column + 1,
             row,
@@ -158,7 +148,7 @@ pub fn draw<P: Panel>(panel: &mut P, stroke: Stroke)
     ensures { Drew P.make panel.old (drawn stroke (P.make.cells panel.old)) panel.new }
 {
     match stroke.ink {
-        Ink::Write { column, row, .. } => draw_at(panel, stroke, Position { column, row }),
+        Ink::Write { at, .. } => draw_at(panel, stroke, at),
         Ink::ShiftRight { .. } | Ink::ScrollDown => draw_down(panel, stroke),
         Ink::Blank | Ink::BlankRow { .. } | Ink::ShiftLeft { .. } | Ink::ScrollUp => draw_up(
             panel, stroke,

@@ -175,16 +175,10 @@ pub fn class_of(page: Page, byte: u8) -> Class
     class_at(place_of(page, byte))
 }
 
-fn count() -> usize
-    ensures { result ≡ 768 }
-{
-    CLASSES.len()
-}
-
 // How many classes the table has. All tell what the transition does, which is the theorem named here.
 pub fn classes_agree() -> usize
     ensures size { result ≡ 768 }
     ensures agree { TableAgrees }
 {
-    count()
+    CLASSES.len()
 }

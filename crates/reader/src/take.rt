@@ -125,16 +125,10 @@ impl Reading {
     }
 }
 
-fn cancels() -> [u8; 6]
-    ensures { result ≡ six }
-{
-    [CANCEL; 6]
-}
-
 // The bytes that bring a reader to rest, however much of an item it has read.
 pub fn six_cancels() -> [u8; 6]
     ensures bytes { result ≡ six }
     ensures rests { SixCancels }
 {
-    cancels()
+    [CANCEL; 6]
 }

@@ -4,9 +4,9 @@ ghost use Rattle.reader.specs.Numbers.{mark_number, mark_byte, mode_number, slot
 ghost use Rattle.reader.specs.Steps.{done, wait, fails};
 ghost use Rattle.reader.specs.declared.words.ReadFault.TheVariants.{OutOfRange};
 
-pub(crate) const ESC: u8 = 0x1B;
+pub const ESC: u8 = 0x1B;
 
-pub(crate) const US: u8 = 0x1F;
+pub const US: u8 = 0x1F;
 
 // What is lit beside a character.
 #[derive(Clone, Copy, Debug, PartialEq, Eq)]

@@ -108,7 +108,10 @@ fn a_full_list(rt: HostRuntime) -> Result<(), Fail> {
 fn a_faulty_operand_is_not_read_again(rt: HostRuntime) -> Result<(), Fail> {
     let mut display = switched_on()?;
     // brightness 41h is out of range, and is no "A"
-    assert_eq!(rt; first_fault(&mut display, &[0x1F, 0x58, 0x41]), Some((2, 1)));
+    assert_eq!(rt;
+        first_fault(&mut display, &[0x1F, 0x58, 0x41]),
+        Some((2, 1))
+    );
     assert_eq!(rt; cell(&display, 1, 1), BLANK);
     Ok(())
 }

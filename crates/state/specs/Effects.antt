@@ -25,7 +25,7 @@ use Rattle.state.specs.Users.{user_at, user_set}
 use Rattle.state.specs.Tapes.{Turned, recorded, playing}
 use Rattle.state.specs.Lamps.{lamp_set}
 use Rattle.state.specs.Moves.{toward}
-use Rattle.state.specs.Layouts.{Turn, stepped, jumped, turning, cancelling, defining, going}
+use Rattle.state.specs.Layouts.{Turn, cursor_of, stepped, jumped, turning, cancelling, defining, going}
 use Rattle.state.specs.Core.{Core, fresh, window, with_layout, with_pen, with_shown, with_brightness, with_lamp, with_selected, with_users, with_tape}
 
 -- the state after a command, and what it draws or why it is refused
@@ -79,7 +79,7 @@ abbrev pub writes_on : Core → ℕ → Effect
 writes_on c v = record {
   core = with_layout c (stepped way.Right c.pen.mode c.layout);
   answer = Ok (record {
-    first = Some (stroke (window c) (Write c.layout.column c.layout.row v));
+    first = Some (stroke (window c) (Write (cursor_of c.layout) v));
     second = inks (window c) (toward way.Right c.pen.mode (window c) c.layout.column c.layout.row).ink;
   });
 }
@@ -92,7 +92,7 @@ writes Horizontal c v = record {
   core = c;
   answer = Ok (record {
     first = Some (stroke (window c) (ShiftLeft c.layout.row));
-    second = Some (stroke (window c) (Write (window c).x2 c.layout.row v));
+    second = Some (stroke (window c) (Write (record { column = (window c).x2; row = c.layout.row }) v));
   });
 }
 

@@ -18,7 +18,7 @@ window_number (Some n) = slot_number n
 abbrev pub modes_of : Core → Modes
 modes_of c = record {
   mode = c.pen.mode;
-  window = window_number c.layout.current;
+  window = c.layout.current;
   cursor = c.shown;
   user = c.pen.user;
   recording = is_recording c.tape.current;
@@ -37,7 +37,7 @@ bit true = 1
 -- each by its number, in this order
 abbrev pub mode_numbers : Modes → List ℕ
 mode_numbers m =
-    mode_number m.mode ∷ m.window ∷ bit m.cursor ∷ bit m.user ∷ bit m.recording ∷ bit m.playing ∷ bit m.selected ∷
+    mode_number m.mode ∷ window_number m.window ∷ bit m.cursor ∷ bit m.user ∷ bit m.recording ∷ bit m.playing ∷ bit m.selected ∷
     m.blink ∷ m.table ∷ m.set ∷ m.brightness ∷ []
 
 -- the bits of a user character, if it is defined

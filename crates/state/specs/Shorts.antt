@@ -13,7 +13,7 @@ use Rattle.reader.specs.Steps.{step, wait}
 use Rattle.state.specs.declared.listener.Voice.TheVariants.{Host}
 use Rattle.state.specs.declared.moves.Way.TheVariants as way
 use Rattle.state.specs.Cells.{built_in}
-use Rattle.state.specs.Layouts.{Layout, here, stepped}
+use Rattle.state.specs.Layouts.{Layout, here, stepped, cursor_of}
 use Rattle.state.specs.Reels.{is_playing, is_recording}
 use Rattle.state.specs.Core.{Core, window, with_reading, with_layout}
 use Rattle.state.specs.Effects.{stroke, effect, no_strokes}
@@ -86,7 +86,7 @@ pub record Shortly (b : ℕ) (c : Core) (ss : List Stroke) (c' : Core) : Type 0 
 
 -- all that comes of a character: its cell where the cursor stands, inside the window
 pub record Types (b : ℕ) (c : Core) : Type 0 where
-  pub shortly : Shortly b c (stroke (window c) (Write c.layout.column c.layout.row (typed_cell b c)) ∷ []) (typed_on c)
+  pub shortly : Shortly b c (stroke (window c) (Write (cursor_of c.layout) (typed_cell b c)) ∷ []) (typed_on c)
   pub inside : inside (window c) c.layout.column c.layout.row ≡ true
 
 -- whether a byte was read with which a command only goes on; else nothing was read

@@ -3,7 +3,7 @@ ghost use Rattle.std.specs.Prelude.{◌≡◌};
 ghost use Rattle.terms.specs.declared.fault.DisplayFault.TheVariants.{Read};
 ghost use Rattle.terms.specs.Faults.{inner, display_cause, display_first, display_second, display_operand};
 
-use reader::words::ReadFault;
+use reader::words::{ESC, ReadFault, US};
 
 #[derive(Clone, Copy, Debug, PartialEq, Eq)]
 pub enum DisplayFault {
@@ -36,10 +36,6 @@ pub enum Fault {
 pub const UNUSED: Fault = Fault::Said {
     fault: DisplayFault::NoMacro,
 };
-
-const ESC: u8 = 0x1B;
-
-const US: u8 = 0x1F;
 
 impl Fault {
     // The display's own fault, without who spoke.

@@ -4,11 +4,10 @@ ghost use Rattle.std.proofs.Common.{ap, ◌∙◌, arith};
 ghost use Rattle.std.proofs.lemmas.List.{length-append};
 
 use crate::rows::RowsPanel;
+use glass::area::PLACES;
 use panel::{Panel, PanelRefusal};
 
 const COLUMNS: usize = 20;
-
-const PLACES: usize = 40;
 
 impl Panel for RowsPanel {
     ghost make = { record {

@@ -14,7 +14,7 @@ use crate::moves::{Spot, Way};
 use crate::tape::Tape;
 use crate::users::Users;
 use crate::windows::Windows;
-use glass::area::{Area, WHOLE};
+use glass::area::{Area, Position, WHOLE};
 use glass::stroke::{Ink, Stroke};
 use reader::words::{Command, Mark, Mode};
 use terms::fault::DisplayFault;
@@ -87,8 +87,10 @@ impl Controller {
                 second: Some(Stroke {
                     area,
                     ink: Ink::Write {
-                        column: area.x2,
-                        row: at.row,
+                        at: Position {
+                            column: area.x2,
+                            row: at.row,
+                        },
                         cell,
                     },
                 }),
@@ -97,11 +99,7 @@ impl Controller {
                 let ink = self.windows.step(Way::Right, mode);
                 let first = Some(Stroke {
                     area,
-                    ink: Ink::Write {
-                        column: at.column,
-                        row: at.row,
-                        cell,
-                    },
+                    ink: Ink::Write { at, cell },
                 });
                 Ok(Strokes {
                     first,

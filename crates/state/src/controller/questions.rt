@@ -8,14 +8,14 @@ ghost use Rattle.state.specs.Questions.{modes_of, mode_numbers, user_of, macro_o
 use crate::cell::user_bits;
 use crate::controller::Controller;
 use glass::area::{Area, Position};
-use reader::words::Mode;
+use reader::words::{Mode, Slot};
 
 // The state that is neither glass, cursor, windows, user characters nor macro.
 #[derive(Clone, Copy, Debug, PartialEq, Eq)]
 pub struct Modes {
     pub mode: Mode,
-    // the current window's number
-    pub window: u8,
+    // the current window; `None` is window 0, the whole glass
+    pub window: Option<Slot>,
     pub cursor: bool,
     pub user: bool,
     pub recording: bool,
@@ -34,7 +34,7 @@ impl Modes {
     {
         [
             u8::from(self.mode),
-            self.window,
+            self.window.map_or(0, u8::from),
             u8::from(self.cursor),
             u8::from(self.user),
             u8::from(self.recording),
@@ -87,7 +87,7 @@ impl Controller {
     {
         Modes {
             mode: self.pen.mode,
-            window: self.windows.current().map_or(0, u8::from),
+            window: self.windows.current(),
             cursor: self.shown,
             user: self.pen.user,
             recording: self.tape.is_recording(),

@@ -6,7 +6,7 @@ ghost use Rattle.state.specs.Heard.{Hears};
 ghost use Rattle.state.specs.Shorts.{GoesOn, awaited, mark_in};
 
 use crate::listener::{Item, Listener, Speaker, Voice};
-use reader::words::{Mark, Outcome, ReadFault, Reading, Step};
+use reader::words::{ESC, Mark, Outcome, ReadFault, Reading, Step, US};
 
 // The macro speaks while this stands; the host speaks again once it is let go.
 pub struct Speaking<'a> {
@@ -87,8 +87,8 @@ impl Listener {
         ensures { GoesOn self.old.reading byte result self.new.reading }
     {
         let next = match (self.reading, byte) {
-            (Reading::Rest, 0x1B) => Reading::AfterEsc,
-            (Reading::Rest, 0x1F) => Reading::AfterUs,
+            (Reading::Rest, ESC) => Reading::AfterEsc,
+            (Reading::Rest, US) => Reading::AfterUs,
             (Reading::AfterUs, b'$') => Reading::GoToX,
             (Reading::AfterUs, b'.') => Reading::MarkedN { mark: Mark::Point },
             (Reading::GoToX, 1..=20) => Reading::GoToY { x: byte },

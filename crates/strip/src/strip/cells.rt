@@ -5,9 +5,8 @@ ghost use Rattle.strip.specs.Latest.{latest, Latest};
 ghost use Rattle.strip.specs.Laws.{strip, strip_laws};
 
 use crate::strip::{Change, StripPanel};
+use glass::area::PLACES;
 use panel::{Panel, PanelRefusal};
-
-const PLACES: usize = 40;
 
 impl StripPanel<'_> {
     // The cell of the latest change for a place.

@@ -1,5 +1,5 @@
 use Rattle.reader.proofs.Cancels.{six_cancels}
 use Rattle.reader.proofs.take.six_cancels.Goals as goal
 
-pub returns : goal.returns
-returns c = record { bytes = c.cancels.ensures; rests = six_cancels }
+pub returns-clause-rests : goal.returns-clause-rests
+returns-clause-rests c = six_cancels
