@@ -71,8 +71,8 @@ impl<'a> Panel for StripPanel<'a> {
         ensures cell { result ≡ (if nat_lt place 40 then Ok (slice_index (cells_of self.now) place) else Err PanelRefusal.OffGlass) }
         ensures latest { Latest }
     {
-        let painted = self.picture.look(place)?;
-        Ok(self.latest(place).unwrap_or(painted))
+        let held = self.picture.look(place)?;
+        Ok(self.latest(place).unwrap_or(held))
     }
 
     fn painted(&mut self) {
