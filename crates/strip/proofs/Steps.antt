@@ -13,7 +13,7 @@ use Rattle.panel.specs.Forty.{forty_length}
 use Rattle.panel.specs.Plain.{plain_cells}
 use Rattle.strip.specs.declared.strip.Change.{Change}
 use Rattle.strip.specs.declared.strip.StripPanel.{StripPanel}
-use Rattle.strip.specs.Strip.{picture_of, waiting_of, merged, Appends, Overflows, Writes, Roomed, Added, Puts}
+use Rattle.strip.specs.Strip.{picture_of, waiting_of, merged, HasRoom, IsFull, Appends, Overflows, Writes, Roomed, Added, Puts}
 use Rattle.strip.specs.Latest.{latest, Latest}
 use Rattle.strip.specs.Laws.{merged_push, none_waits}
 
@@ -55,10 +55,10 @@ pub placed : (s m t : StripPanel) (c : Change) → Roomed s m → Added m c t �
 placed s m t c r a =
     record { room = room; full = full; empty = empty; lent = a.lent ∙ r.lent }
   where
-    room : length (waiting_of s) < capacity s.changes → Appends s c t
-    room l = subst (λ x. Appends x c t) (r.room l) (a.room (subst (λ x. length (waiting_of x) < capacity x.changes) (sym (r.room l)) l))
+    room : HasRoom s → Appends s c t
+    room l = subst (λ x. Appends x c t) (r.room l) (a.room (subst HasRoom (sym (r.room l)) l))
 
-    full : capacity s.changes ≤ length (waiting_of s) → 0 < capacity s.changes → Overflows s c t
+    full : IsFull s → 0 < capacity s.changes → Overflows s c t
     full f some =
         let e = r.full f in
         let none : length (waiting_of m) ≡ 0 = ap length e.none in
