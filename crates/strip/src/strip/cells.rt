@@ -27,6 +27,7 @@ impl StripPanel<'_> {
         ensures { Merged self.old self.old.all self.new }
     {
         for &Change { place, cell } in self.changes.as_slice() {
+            // Refused only off the glass, where a picture has nothing to keep.
             let _ = self.picture.put(place, cell);
         }
         self.changes.clear();
