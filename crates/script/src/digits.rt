@@ -42,6 +42,7 @@ fn hex_digit(value: u8) -> u8
 }
 
 // A byte as two hex digits: reading them gives the byte back.
+#[tactic(auto, using(crate::proofs::Steps::reads_back))]
 pub fn write_hex(byte: u8) -> [u8; 2]
     ensures value { result ≡ hex_of byte }
     ensures always { ReadsBack }
