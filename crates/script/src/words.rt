@@ -54,6 +54,7 @@ pub fn after_first(line: &[u8]) -> &[u8]
 pub fn hex_bytes(heap: Global, words: &[&[u8]]) -> Result<Option<Vec<u8>>, AllocError>
     ensures { IfOk result (λ o. MatchOption o (bytes_of (texts words.now) ≡ None) (λ v. bytes_of (texts words.now) ≡ Some v.items)) }
 {
+    // A loop, since `collect` into an `Option` does not promise when it is `None`.
     let mut out = Vec::new(heap);
     for word in words {
         let Some(byte) = read_hex(word) else {
