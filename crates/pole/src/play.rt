@@ -77,8 +77,7 @@ impl<'r, 'a> Play<'r, 'a> {
 
     fn error(&self, mistake: Mistake) -> anyhow::Result<()> {
         let number = self.lines.number();
-        let why = mistake.why();
-        println!(self.rt; "error {number}: {why}")?;
+        println!(self.rt; "error {number}: {mistake}")?;
         Ok(())
     }
 

@@ -45,9 +45,6 @@ Taken most ws (Ok p) = (w : List ℕ) × (ws ≡ w ∷ texts p.1.now) × (operan
 Taken most [] (Err m) = m ≡ FewWords
 Taken most (w ∷ ws) (Err m) = operand_of most w ≡ Err m
 
-abbrev pub one_asked : ℕ → List (List ℕ) → Result ℕ Mistake
-one_asked most ws = number_then most ws (λ n ws. alone_of n ws)
-
 abbrev pub cell_asked : List (List ℕ) → Result Request Mistake
 cell_asked ws = number_then 255 ws (λ x ws. number_then 255 ws (λ y ws. alone_of (request.Cell x y) ws))
 
@@ -58,16 +55,16 @@ on_asked ws =
 -- the request of a keyword with the words after it
 abbrev pub asked : Keyword → List (List ℕ) → Result Request Mistake
 asked keyword.On ws = on_asked ws
-asked keyword.Room ws = then (one_asked 8192 ws) (λ n. Ok (request.Room n))
+asked keyword.Room ws = number_then 8192 ws (λ n ws. alone_of (request.Room n) ws)
 asked keyword.Feed ws = Ok request.Feed
 asked keyword.Text ws = Ok request.Text
-asked keyword.Tick ws = then (one_asked 1000000 ws) (λ n. Ok (request.Tick n))
+asked keyword.Tick ws = number_then 1000000 ws (λ n ws. alone_of (request.Tick n) ws)
 asked keyword.Painted ws = alone_of request.Painted ws
 asked keyword.Cell ws = cell_asked ws
 asked keyword.Cursor ws = alone_of request.Cursor ws
-asked keyword.Window ws = then (one_asked 255 ws) (λ n. Ok (request.Window n))
-asked keyword.User ws = then (one_asked 255 ws) (λ n. Ok (request.User n))
-asked keyword.Macro ws = then (one_asked 999999999 ws) (λ n. Ok (request.Macro n))
+asked keyword.Window ws = number_then 255 ws (λ n ws. alone_of (request.Window n) ws)
+asked keyword.User ws = number_then 255 ws (λ n ws. alone_of (request.User n) ws)
+asked keyword.Macro ws = number_then 999999999 ws (λ n ws. alone_of (request.Macro n) ws)
 asked keyword.Lamp ws = alone_of request.Lamp ws
 asked keyword.Modes ws = alone_of request.Modes ws
 asked keyword.Glass ws = alone_of request.Glass ws

@@ -1,67 +1,38 @@
 // A line's words as a request.
 ghost use Rattle.std.specs.Prelude.{◌≡◌, ◌≤◌, IfOk};
-ghost use Rattle.requests.specs.Asked.{Taken, alone_of, plain_then, one_asked, cell_asked, on_asked, asked, request_of};
-ghost use Rattle.requests.specs.Keywords.{name_of, keyword_of, KeywordsStand};
+ghost use Rattle.requests.specs.Asked.{Taken, alone_of, plain_then, cell_asked, on_asked, asked, request_of};
+ghost use Rattle.requests.specs.Keywords.{keyword_of, KeywordsStand};
 ghost use Rattle.script.specs.Splits.{texts};
 
 use crate::requests::{Keyword, Mistake, Request};
 use script::digits::number;
 
-const KEYWORDS: [Keyword; 18] = [
-    Keyword::On,
-    Keyword::Room,
-    Keyword::Feed,
-    Keyword::Text,
-    Keyword::Tick,
-    Keyword::Painted,
-    Keyword::Cell,
-    Keyword::Cursor,
-    Keyword::Window,
-    Keyword::User,
-    Keyword::Macro,
-    Keyword::Lamp,
-    Keyword::Modes,
-    Keyword::Glass,
-    Keyword::Show,
-    Keyword::Items,
-    Keyword::Replay,
-    Keyword::Off,
-];
-
-fn name(keyword: Keyword) -> &'static [u8]
-    ensures { result.now ≡ name_of keyword }
-{
-    match keyword {
-        Keyword::On => b"on",
-        Keyword::Room => b"room",
-        Keyword::Feed => b"feed",
-        Keyword::Text => b"text",
-        Keyword::Tick => b"tick",
-        Keyword::Painted => b"painted",
-        Keyword::Cell => b"cell",
-        Keyword::Cursor => b"cursor",
-        Keyword::Window => b"window",
-        Keyword::User => b"user",
-        Keyword::Macro => b"macro",
-        Keyword::Lamp => b"lamp",
-        Keyword::Modes => b"modes",
-        Keyword::Glass => b"glass",
-        Keyword::Show => b"show",
-        Keyword::Items => b"items",
-        Keyword::Replay => b"replay",
-        Keyword::Off => b"off",
-    }
-}
-
+// The command that has this name.
+#[tactic(auto, unfolding(crate::specs::Keywords::keyword_of))]
 fn keyword(word: &[u8]) -> Option<Keyword>
     ensures { result ≡ keyword_of word.now }
 {
-    for keyword in KEYWORDS.iter() {
-        if word == name(*keyword) {
-            return Some(*keyword);
-        }
+    match word {
+        b"on" => Some(Keyword::On),
+        b"room" => Some(Keyword::Room),
+        b"feed" => Some(Keyword::Feed),
+        b"text" => Some(Keyword::Text),
+        b"tick" => Some(Keyword::Tick),
+        b"painted" => Some(Keyword::Painted),
+        b"cell" => Some(Keyword::Cell),
+        b"cursor" => Some(Keyword::Cursor),
+        b"window" => Some(Keyword::Window),
+        b"user" => Some(Keyword::User),
+        b"macro" => Some(Keyword::Macro),
+        b"lamp" => Some(Keyword::Lamp),
+        b"modes" => Some(Keyword::Modes),
+        b"glass" => Some(Keyword::Glass),
+        b"show" => Some(Keyword::Show),
+        b"items" => Some(Keyword::Items),
+        b"replay" => Some(Keyword::Replay),
+        b"off" => Some(Keyword::Off),
+        _ => None,
     }
-    None
 }
 
 // The next word as a number of at most `most`, and the words after it.
@@ -69,19 +40,15 @@ fn operand<'b, 'a>(most: u32, words: &'b [&'a [u8]]) -> Result<(u32, &'b [&'a [u
     ensures value { Taken most (texts words.now) result }
     ensures bound { IfOk result (λ p. p.0 ≤ most) }
 {
-    if words.len() == 0 {
-        return Err(Mistake::FewWords);
+    let (word, rest) = words.split_first().ok_or(Mistake::FewWords)?;
+    let n = number(word).ok_or(Mistake::NoNumber)?;
+    if n > most {
+        return Err(Mistake::LargeNumber);
     }
-    match number(words[0]) {
-        None => Err(Mistake::NoNumber),
-        Some(n) => if n <= most {
-            Ok((n, &words[1..]))
-        } else {
-            Err(Mistake::LargeNumber)
-        },
-    }
+    Ok((n, rest))
 }
 
+// The next word as a byte, and the words after it.
 fn byte_operand<'b, 'a>(words: &'b [&'a [u8]]) -> Result<(u8, &'b [&'a [u8]]), Mistake>
     ensures { Taken 255 (texts words.now) result }
 {
@@ -93,25 +60,10 @@ fn byte_operand<'b, 'a>(words: &'b [&'a [u8]]) -> Result<(u8, &'b [&'a [u8]]), M
 fn alone<T: Drop>(value: T, words: &[&[u8]]) -> Result<T, Mistake>
     ensures { result ≡ alone_of value (texts words.now) }
 {
-    if words.len() > 0 {
-        return Err(Mistake::ManyWords);
+    match words {
+        [] => Ok(value),
+        _ => Err(Mistake::ManyWords),
     }
-    Ok(value)
-}
-
-fn one(most: u32, words: &[&[u8]]) -> Result<u32, Mistake>
-    ensures value { result ≡ one_asked most (texts words.now) }
-    ensures bound { IfOk result (λ n. n ≤ most) }
-{
-    let (n, rest) = operand(most, words)?;
-    alone(n, rest)
-}
-
-fn one_byte(words: &[&[u8]]) -> Result<u8, Mistake>
-    ensures { result ≡ one_asked 255 (texts words.now) }
-{
-    let n = one(255, words)?;
-    Ok(n as u8)
 }
 
 fn cell(words: &[&[u8]]) -> Result<Request, Mistake>
@@ -126,13 +78,10 @@ fn cell(words: &[&[u8]]) -> Result<Request, Mistake>
 fn made_plain(request: Request, words: &[&[u8]]) -> Result<Request, Mistake>
     ensures { result ≡ plain_then (texts words.now) (λ ws. alone_of request ws) }
 {
-    if words.len() == 0 {
-        return Err(Mistake::FewWords);
-    }
-    if words[0] == b"plain".as_slice() {
-        alone(request, &words[1..])
-    } else {
-        Err(Mistake::NoMake)
+    match words {
+        [] => Err(Mistake::FewWords),
+        [b"plain", rest @ ..] => alone(request, rest),
+        _ => Err(Mistake::NoMake),
     }
 }
 
@@ -158,26 +107,31 @@ fn asked(keyword: Keyword, words: &[&[u8]]) -> Result<Request, Mistake>
 {
     match keyword {
         Keyword::On => on(words),
-        Keyword::Room => Ok(Request::Room {
-            places: one(8192, words)?,
-        }),
+        Keyword::Room => {
+            let (places, rest) = operand(8192, words)?;
+            alone(Request::Room { places }, rest)
+        }
         Keyword::Feed => Ok(Request::Feed),
         Keyword::Text => Ok(Request::Text),
-        Keyword::Tick => Ok(Request::Tick {
-            count: one(1000000, words)?,
-        }),
+        Keyword::Tick => {
+            let (count, rest) = operand(1000000, words)?;
+            alone(Request::Tick { count }, rest)
+        }
         Keyword::Painted => alone(Request::Painted, words),
         Keyword::Cell => cell(words),
         Keyword::Cursor => alone(Request::Cursor, words),
-        Keyword::Window => Ok(Request::Window {
-            number: one_byte(words)?,
-        }),
-        Keyword::User => Ok(Request::User {
-            code: one_byte(words)?,
-        }),
-        Keyword::Macro => Ok(Request::Macro {
-            index: one(999999999, words)?,
-        }),
+        Keyword::Window => {
+            let (number, rest) = byte_operand(words)?;
+            alone(Request::Window { number }, rest)
+        }
+        Keyword::User => {
+            let (code, rest) = byte_operand(words)?;
+            alone(Request::User { code }, rest)
+        }
+        Keyword::Macro => {
+            let (index, rest) = operand(999999999, words)?;
+            alone(Request::Macro { index }, rest)
+        }
         Keyword::Lamp => alone(Request::Lamp, words),
         Keyword::Modes => alone(Request::Modes, words),
         Keyword::Glass => alone(Request::Glass, words),
@@ -189,15 +143,13 @@ fn asked(keyword: Keyword, words: &[&[u8]]) -> Result<Request, Mistake>
 }
 
 // What a line's words ask for.
+#[tactic(auto, using(crate::proofs::Asking::keywords_stand))]
 pub fn request(words: &[&[u8]]) -> Result<Request, Mistake>
     ensures value { result ≡ request_of (texts words.now) }
     ensures always { KeywordsStand }
 {
-    if words.len() == 0 {
-        return Ok(Request::Nothing);
-    }
-    match keyword(words[0]) {
-        Some(keyword) => asked(keyword, &words[1..]),
-        None => Err(Mistake::Unknown),
+    match words {
+        [] => Ok(Request::Nothing),
+        [first, rest @ ..] => asked(keyword(first).ok_or(Mistake::Unknown)?, rest),
     }
 }

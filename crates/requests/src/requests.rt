@@ -1,9 +1,12 @@
 // What a line asks for, and why it may be none.
-ghost use Rattle.std.specs.Prelude.{◌≡◌};
+ghost use Rattle.std.specs.Prelude.{Some};
 ghost use Rattle.requests.specs.Keywords.{why_of};
 
+use std::error::Error;
+use std::fmt;
+
 // The bytes of `Feed` and `Items` are the words after the first; those of `Text` are what follows the first and a blank.
-#[derive(Clone, Copy)]
+#[derive(Clone, Copy, Debug, PartialEq, Eq)]
 pub enum Request {
     // a comment, or no words
     Nothing,
@@ -28,7 +31,7 @@ pub enum Request {
 }
 
 // Why a line is answered by an error.
-#[derive(Clone, Copy)]
+#[derive(Clone, Copy, Debug, PartialEq, Eq)]
 pub enum Mistake {
     Unknown,
     FewWords,
@@ -41,11 +44,11 @@ pub enum Mistake {
     DisplayOn,
 }
 
-impl Mistake {
-    pub fn why(self) -> &'static str
-        ensures { result.now ≡ why_of self }
-    {
-        match self {
+impl fmt::Display for Mistake {
+    ghost output = { λ m. Some (why_of m) };
+
+    fn fmt<W: fmt::Write>(&self, f: &mut fmt::Formatter<W>) -> fmt::Result {
+        f.write_str(match self {
             Mistake::Unknown => "no such command",
             Mistake::FewWords => "too few words",
             Mistake::ManyWords => "too many words",
@@ -55,12 +58,14 @@ impl Mistake {
             Mistake::NoMake => "no such make of panel",
             Mistake::DisplayOff => "no display is on",
             Mistake::DisplayOn => "a display is on",
-        }
+        })
     }
 }
 
+impl Error for Mistake {}
+
 // The first word of a line.
-#[derive(Clone, Copy)]
+#[derive(Clone, Copy, Debug, PartialEq, Eq)]
 pub enum Keyword {
     On,
     Room,

@@ -1,29 +1,38 @@
 -- Steps of the loops and of the reading of words. Assumes nothing.
-use Rattle.std.proofs.Common.{◌≡◌, ℕ, zero, suc, ◌+◌, ◌-◌, ◌*◌, ◌/◌, ◌%◌, ◌^◌, ◌<◌, ◌≤◌, Bool, true, false, cond, not, eqb, ◌≢◌, ◌⊎◌, List, [], ◌∷◌, ◌++◌, length, get_or, take, drop, Some, None, Option, sym, refl, ap, ◌∙◌, subst, inl, inr, ⊎_elim, append_assoc, pow-suc, add-one, arith, length-drop, Bor}
+use Rattle.std.proofs.Common.{◌≡◌, ℕ, suc, ◌+◌, ◌*◌, ◌/◌, ◌%◌, ◌^◌, ◌<◌, ◌≤◌, Bool, true, false, cond, not, eqb, ◌⊎◌, List, [], ◌∷◌, ◌++◌, filter, length, get_or, take, drop, Some, None, Option, sym, refl, ap, ◌∙◌, inl, inr, ⊎_elim, append_assoc, append-nil, add-one, one-add, arith, Bor}
 use native.Mathlib.Nat.{pow-le-pow_right}
-use Rattle.std.proofs.lemmas.List.{at_drop_more, at_drop_all, take_more, get_or-drop, take_rest}
-use Rattle.std.proofs.lemmas.Bool.{eq-eqb, ne_eqb, eqb-true, cond-true, cond-false, le-leb, and_from, and_parts, cases_Bool, not_from_false}
+use Rattle.std.proofs.lemmas.List.{at_drop_more, at_drop_all, take_all}
+use Rattle.std.proofs.lemmas.Bool.{eq-eqb, ne_eqb, eqb-true, cond-true, cond-false, and_from, and_parts, cases_lt, not_from_false}
 use Rattle.std.proofs.lemmas.Bool.Decides.{nat_tests}
-use Rattle.std.specs.List.{flat_map, AllByRecursion}
-use Rattle.script.specs.Figures.{digit_value, decimal, if_digit, number_of, between, hex_value, hex_pair, hex_byte, hex_digit, small, ReadsBack}
+use Rattle.std.proofs.lemmas.List.Sums.{prefix_len-le-length, fails_before_first, passes_at_first, split_at_first}
+use Rattle.std.proofs.lemmas.List.Recursion.{is_position_or_len}
+use Rattle.std.specs.Char.{digit_value as char_value}
+use Rattle.std.specs.Option.{SomeIff, unwrap_or}
+use Rattle.std.specs.List.{flat_map, position, position_or_len, slice_split, onto_first, AllByRecursion}
+use Rattle.script.specs.Figures.{hex_value, hex_pair, hex_byte, hex_digit, small, ReadsBack}
 use Rattle.script.specs.Rows.{line_size, LinesJoin}
-use Rattle.script.specs.Splits.{blank, texts, ended, gather, comment, words_of, after, if_byte, bytes_from, solid, no_blank, WordsStand}
+use Rattle.script.specs.Splits.{blank, texts, ended, gather, comment, from_word, after, after_first, if_byte, bytes_from, solid, no_blank, WordsStand}
+
+-- the first place that passes
+
+pub place_or_end : (p : ℕ → Bool) (bs : List ℕ) (o : Option ℕ) → o ≡ position p bs → unwrap_or o (length bs) ≡ position_or_len p bs
+place_or_end p bs o h = grind (arith, nat_tests, prefix_len-le-length (λ b. not (p b)) bs)
+
+pub place_found : (p : ℕ → Bool) (bs : List ℕ) (o : Option ℕ) (i : ℕ) → o ≡ position p bs → o ≡ Some i → i ≡ position_or_len p bs
+place_found p bs o i h e = grind (arith, nat_tests)
+
+pub place_none : (p : ℕ → Bool) (bs : List ℕ) (o : Option ℕ) → o ≡ position p bs → o ≡ None → length bs ≤ position_or_len p bs
+place_none p bs o h e = grind (arith, nat_tests)
 
 -- numbers
-
-pub digit_more : (w : List ℕ) (n i : ℕ) (o : Option ℕ) → i < length w → o ≡ digit_value (get_or w i 0) → decimal n (drop i w) ≡ if_digit o (λ v. decimal (10 * n + v) (drop (i + 1) w))
-digit_more w n i o h e = at_drop_more (decimal n) w i 0 h ∙ ap (λ t. if_digit t (λ v. decimal (10 * n + v) (drop (i + 1) w))) (sym e)
-
-pub ten_more : (n v i : ℕ) → n < 10 ^ i → v < 10 → 10 * n + v < 10 ^ (i + 1)
-ten_more n v i h k = omega (arith, pow-suc 10 i, ap (λ j. 10 ^ j) (add-one i))
 
 pub nine_fit : (n i : ℕ) → n < 10 ^ i → i < 9 → n < 100000000
 nine_fit n i h k = let p : i ≤ 8 = omega arith in omega (arith, pow-le-pow_right {n = 10} (omega arith) p)
 
-pub sized : (w : List ℕ) → 1 ≤ length w → length w ≤ 9 → number_of w ≡ decimal 0 w
-sized w h k = cond-true (between 1 9 (length w)) _ _ (and_from _ _ (le-leb _ _ h) (le-leb _ _ k))
-
--- hex
+-- the library's value of a character, below 16, is its value as a digit here
+pub hex_char : (c : ℕ) (o : Option ℕ) → SomeIff o (char_value c < 16) (char_value c) → o ≡ hex_value c
+hex_char c None h = grind (arith, nat_tests)
+hex_char c (Some v) h = grind (arith, nat_tests)
 
 pub pair_of : (w : List ℕ) → length w ≡ 2 → hex_byte w ≡ hex_pair (hex_value (get_or w 0 0)) (hex_value (get_or w 1 0))
 pair_of [] h = absurd (omega arith)
@@ -57,94 +66,62 @@ reads_back = record {
 
 -- lines
 
-pub line_here : (bs : List ℕ) (i : ℕ) → i < length bs → get_or bs i 0 ≡ 10 → line_size (drop i bs) ≡ 0
-line_here bs i h e = at_drop_more line_size bs i 0 h ∙ cond-true (eqb (get_or bs i 0) 10) _ _ (eq-eqb _ _ e)
-
-pub line_more : (bs : List ℕ) (i : ℕ) → i < length bs → (get_or bs i 0 ≡ 10 → ⊥) → line_size (drop i bs) ≡ suc (line_size (drop (i + 1) bs))
-line_more bs i h e = at_drop_more line_size bs i 0 h ∙ cond-false (eqb (get_or bs i 0) 10) _ _ (ne_eqb _ _ e)
-
-pub line_end : (bs : List ℕ) (i : ℕ) → length bs ≤ i → line_size (drop i bs) ≡ 0
-line_end bs i h = at_drop_all line_size bs i h
-
--- a line cut out of the rest, as the code does it
-pub line_part : (xs : List ℕ) (at e : ℕ) → e ≡ line_size (take (length xs - at) (drop at xs)) → take (e - 0) (drop 0 (take (length xs - at) (drop at xs))) ≡ take (line_size (drop at xs)) (drop at xs)
-line_part xs at e p =
-    let q : e - 0 ≡ line_size (drop at xs) = omega (arith, ap line_size (take_rest xs at)) in
-    ap (λ l. take (e - 0) l) (take_rest xs at) ∙ ap (λ n. take n (drop at xs)) q
+pub size_is : (bs : List ℕ) → line_size bs ≡ position_or_len (λ b. eqb b 10) bs
+size_is bs = is_position_or_len line_size (λ b. eqb b 10) refl (λ x xs. ap (λ n. cond (eqb x 10) 0 n) (sym (one-add (line_size xs)))) bs
 
 line_free : (bs : List ℕ) (k : ℕ) → k < line_size bs → get_or bs k 0 ≡ 10 → ⊥
-line_free [] k h e = omega arith
-line_free (b ∷ bs) zero h e = omega (arith, cond-true (eqb b 10) 0 (suc (line_size bs)) (eq-eqb b 10 e))
-line_free (b ∷ bs) (suc k) h e =
-    ⊎_elim
-    (λ t. omega (arith, cond-true (eqb b 10) 0 (suc (line_size bs)) t))
-    (λ f. line_free bs k (omega (arith, cond-false (eqb b 10) 0 (suc (line_size bs)) f)) e)
-    (cases_Bool (eqb b 10))
+line_free bs k h e =
+    let n = fails_before_first (λ b. eqb b 10) bs k 0 (omega (arith, size_is bs)) in
+    let t = eq-eqb (get_or bs k 0) 10 e in cc
 
-abbrev Ends : List ℕ → ℕ → Type 0
-Ends bs n = (bs ≡ take n bs ++ 10 ∷ drop (suc n) bs) ⊎ (take n bs ≡ bs)
-
-line_ends : (bs : List ℕ) → Ends bs (line_size bs)
-line_ends [] = inr refl
-line_ends (b ∷ bs) =
-    ⊎_elim
-    (λ t. subst (Ends (b ∷ bs)) (sym (cond-true (eqb b 10) 0 (suc (line_size bs)) t)) (inl (ap (λ x. x ∷ bs) (eqb-true b 10 t))))
-    (λ f.
-    subst (Ends (b ∷ bs)) (sym (cond-false (eqb b 10) 0 (suc (line_size bs)) f))
-    (⊎_elim (λ p. inl (ap (λ l. b ∷ l) p)) (λ p. inr (ap (λ l. b ∷ l) p)) (line_ends bs)))
-    (cases_Bool (eqb b 10))
+line_ends : (bs : List ℕ) → (bs ≡ take (line_size bs) bs ++ 10 ∷ drop (suc (line_size bs)) bs) ⊎ (take (line_size bs) bs ≡ bs)
+line_ends bs =
+    let p : ℕ → Bool = λ b. eqb b 10 in
+    rw size_is
+    (⊎_elim
+    (λ (h : position_or_len p bs < length bs).
+    let e = split_at_first p bs 0 h in
+    let t = eqb-true (get_or bs (position_or_len p bs) 0) 10 (passes_at_first p bs 0 h) in
+    let m = add-one (position_or_len p bs) in inl cc)
+    (λ (h : length bs ≤ position_or_len p bs). inr (take_all _ bs h))
+    (cases_lt (position_or_len p bs) (length bs)))
 
 pub lines_join : LinesJoin
 lines_join = record { free = line_free; ends = line_ends }
 
 -- words
 
-pub ended_none : (w : List ℕ) → length w ≤ 0 → ended w [] ≡ []
-ended_none [] h = refl
-ended_none (b ∷ w) h = absurd (omega arith)
+abbrev pub some : List ℕ → Bool
+some w = not (eqb (length w) 0)
 
-pub ended_some : (w : List ℕ) → 0 < length w → ended w [] ≡ w ∷ []
-ended_some [] h = absurd (omega arith)
-ended_some (b ∷ w) h = refl
+-- the parts, where w was begun before the first
+abbrev onto : List ℕ → List (List ℕ) → List (List ℕ)
+onto w [] = w ∷ []
+onto w (v ∷ vs) = (w ++ v) ∷ vs
 
-ended_split : (w : List ℕ) (ws : List (List ℕ)) → ended w ws ≡ ended w [] ++ ws
-ended_split [] ws = refl
-ended_split (b ∷ w) ws = refl
+onto_more : (w : List ℕ) (b : ℕ) (vs : List (List ℕ)) → onto w (onto_first b vs) ≡ onto (w ++ b ∷ []) vs
+onto_more w b [] = refl
+onto_more w b (v ∷ vs) = ap (λ u. u ∷ vs) (sym (append_assoc w (b ∷ []) v))
 
-word_more : (line : List ℕ) (s i : ℕ) → s ≤ i → i < length line → take ((i + 1) - s) (drop s line) ≡ take (i - s) (drop s line) ++ get_or line i 0 ∷ []
-word_more line s i le lt =
-    let inside : i - s < length (drop s line) = omega (arith, length-drop s line) in
-    let count : (i + 1) - s ≡ (i - s) + 1 = omega arith in
-    let place : s + (i - s) ≡ i = omega arith in
-    ap (λ n. take n (drop s line)) count ∙ take_more (drop s line) (i - s) 0 inside
-    ∙ ap (λ b. take (i - s) (drop s line) ++ b ∷ []) (get_or-drop s line (i - s) 0 ∙ ap (λ n. get_or line n 0) place)
+ended_kept : (w : List ℕ) (ws : List (List ℕ)) → filter some (w ∷ ws) ≡ ended w (filter some ws)
+ended_kept [] ws = refl
+ended_kept (b ∷ w) ws = cond-true (some (b ∷ w)) _ _ (not_from_false _ (ne_eqb _ _ (λ h. omega arith)))
 
-pub blank_step : (line : List ℕ) (ts us : List (List ℕ)) (s i : ℕ) → i < length line → blank (get_or line i 0) ≡ true → us ≡ ts ++ ended (take (i - s) (drop s line)) [] → ts ++ gather (take (i - s) (drop s line)) (drop i line) ≡ gather [] line → us ++ gather (take ((i + 1) - (i + 1)) (drop (i + 1) line)) (drop (i + 1) line) ≡ gather [] line
-blank_step line ts us s i lt b more inv =
-    let w : List ℕ = take (i - s) (drop s line) in
-    let rest : List ℕ = drop (i + 1) line in
-    let none : (i + 1) - (i + 1) ≡ 0 = omega arith in
-    ap (λ n. us ++ gather (take n rest) rest) none ∙ ap (λ l. l ++ gather [] rest) more ∙ append_assoc ts (ended w []) (gather [] rest)
-    ∙ ap (λ l. ts ++ l) (sym (at_drop_more (gather w) line i 0 lt ∙ cond-true (blank (get_or line i 0)) _ _ b ∙ ended_split w (gather [] rest))) ∙ inv
+none_kept : (ws : List (List ℕ)) → filter some ws ≡ filter some (onto [] ws)
+none_kept [] = refl
+none_kept (w ∷ ws) = refl
 
-pub solid_step : (line : List ℕ) (ts : List (List ℕ)) (s i : ℕ) → s ≤ i → i < length line → blank (get_or line i 0) ≡ false → ts ++ gather (take (i - s) (drop s line)) (drop i line) ≡ gather [] line → ts ++ gather (take ((i + 1) - s) (drop s line)) (drop (i + 1) line) ≡ gather [] line
-solid_step line ts s i le lt b inv =
-    let w : List ℕ = take (i - s) (drop s line) in
-    let rest : List ℕ = drop (i + 1) line in
-    ap (λ l. ts ++ gather l rest) (word_more line s i le lt) ∙ ap (λ l. ts ++ l) (sym (at_drop_more (gather w) line i 0 lt ∙ cond-false (blank (get_or line i 0)) _ _ b)) ∙ inv
+gather_step : (t : Bool) (w : List ℕ) (b : ℕ) (S G H : List (List ℕ)) → filter some S ≡ G → filter some (onto (w ++ b ∷ []) S) ≡ H → filter some (onto w (cond t ([] ∷ S) (onto_first b S))) ≡ cond t (ended w G) H
+gather_step true w b S G H g h = ap (λ v. filter some (v ∷ S)) (append-nil w) ∙ ended_kept w S ∙ ap (ended w) g
+gather_step false w b S G H g h = ap (filter some) (onto_more w b S) ∙ h
 
-pub words_end : (line : List ℕ) (ts us : List (List ℕ)) (s i : ℕ) → length line ≤ i → i ≤ length line → us ≡ ts ++ ended (take (length line - s) (drop s line)) [] → ts ++ gather (take (i - s) (drop s line)) (drop i line) ≡ gather [] line → us ≡ gather [] line
-words_end line ts us s i ge le more inv =
-    let same : length line ≡ i = omega arith in
-    more ∙ ap (λ n. ts ++ ended (take (n - s) (drop s line)) []) same ∙ ap (λ l. ts ++ l) (sym (at_drop_all (gather (take (i - s) (drop s line))) line i ge)) ∙ inv
+gather_kept : (w bs : List ℕ) → filter some (onto w (slice_split blank bs)) ≡ gather w bs
+gather_kept w [] = ap (λ v. filter some (v ∷ [])) (append-nil w) ∙ ended_kept w []
+gather_kept w (b ∷ bs) = gather_step (blank b) w b (slice_split blank bs) _ _ (none_kept (slice_split blank bs) ∙ gather_kept [] bs) (gather_kept (w ++ b ∷ []) bs)
 
-pub comment_here : (line : List ℕ) → 0 < length line → get_or line 0 0 ≡ 35 → words_of line ≡ []
-comment_here [] h e = absurd (omega arith)
-comment_here (b ∷ bs) h e = cond-true (eqb b 35) _ _ (eq-eqb _ _ e)
-
-pub no_comment : (line : List ℕ) → get_or line 0 0 ≢ 35 → words_of line ≡ gather [] line
-no_comment [] e = refl
-no_comment (b ∷ bs) e = cond-false (eqb b 35) _ _ (ne_eqb _ _ e)
+-- the parts between blanks that have a byte are the words
+pub words_kept : (bs : List ℕ) → filter some (slice_split blank bs) ≡ gather [] bs
+words_kept bs = none_kept (slice_split blank bs) ∙ gather_kept [] bs
 
 ended_joined : (w : List ℕ) (ws : List (List ℕ)) → flat_map (λ v. v) (ended w ws) ≡ w ++ flat_map (λ v. v) ws
 ended_joined [] ws = refl
@@ -191,11 +168,32 @@ words_stand = record {
 
 -- what follows the first word
 
-pub after_more : (line : List ℕ) (begun : Bool) (i : ℕ) → i < length line → after begun (drop i line) ≡ cond (blank (get_or line i 0)) (cond begun (drop (i + 1) line) (after false (drop (i + 1) line))) (after true (drop (i + 1) line))
-after_more line begun i h = at_drop_more (after begun) line i 0 h
+begun_step : (t : Bool) (b : ℕ) (bs : List ℕ) (n : ℕ) → after true bs ≡ drop (n + 1) bs → cond t bs (after true bs) ≡ drop (cond (not t) (1 + n) 0 + 1) (b ∷ bs)
+begun_step true b bs n e = refl
+begun_step false b bs n e = let m : 1 + n + 1 ≡ suc (n + 1) = omega arith in e ∙ ap (λ k. drop k (b ∷ bs)) (sym m)
 
-pub after_end : (line : List ℕ) (begun : Bool) (i : ℕ) → length line ≤ i → after begun (drop i line) ≡ []
-after_end line begun i h = at_drop_all (after begun) line i h
+after_begun : (bs : List ℕ) → after true bs ≡ drop (position_or_len blank bs + 1) bs
+after_begun [] = refl
+after_begun (b ∷ bs) = begun_step (blank b) b bs (position_or_len blank bs) (after_begun bs)
+
+skip_step : (t : Bool) (b : ℕ) (bs : List ℕ) (n : ℕ) → from_word bs ≡ drop n bs → cond t (from_word bs) (b ∷ bs) ≡ drop (cond (not (not t)) (1 + n) 0) (b ∷ bs)
+skip_step true b bs n e = e ∙ ap (λ k. drop k (b ∷ bs)) (sym (one-add n))
+skip_step false b bs n e = refl
+
+pub from_word_is : (bs : List ℕ) → from_word bs ≡ drop (position_or_len (λ b. not (blank b)) bs) bs
+from_word_is [] = refl
+from_word_is (b ∷ bs) = skip_step (blank b) b bs (position_or_len (λ b. not (blank b)) bs) (from_word_is bs)
+
+blanks_step : (t : Bool) (b : ℕ) (bs : List ℕ) → blank b ≡ t → after false bs ≡ after true (from_word bs) → cond t (after false bs) (after true bs) ≡ after true (cond t (from_word bs) (b ∷ bs))
+blanks_step true b bs t e = e
+blanks_step false b bs t e = sym (cond-false (blank b) bs (after true bs) t)
+
+after_blanks : (bs : List ℕ) → after false bs ≡ after true (from_word bs)
+after_blanks [] = refl
+after_blanks (b ∷ bs) = blanks_step (blank b) b bs refl (after_blanks bs)
+
+pub after_is : (bs w : List ℕ) → w ≡ from_word bs → after_first bs ≡ drop (position_or_len blank w + 1) w
+after_is bs w e = after_blanks bs ∙ ap (after true) (sym e) ∙ after_begun w
 
 -- bytes
 
@@ -205,7 +203,3 @@ bytes_more ws bs i d o h e =
 
 pub bytes_end : (ws : List (Bor (List ℕ))) (bs : List ℕ) (i : ℕ) → length ws ≤ i → bytes_from bs (texts (drop i ws)) ≡ Some bs
 bytes_end ws bs i h = at_drop_all (λ l. bytes_from bs (texts l)) ws i h
-
-pub empty_line : (line : List ℕ) → length line ≤ 0 → words_of line ≡ gather [] line
-empty_line [] h = refl
-empty_line (b ∷ bs) h = absurd (omega arith)

@@ -1,10 +1,25 @@
 -- A cell taken apart: code in bits 0 to 7, table in 8 to 15, set in 16 to 23, mark in 40 and 41, and bit 42 for a user
 -- character. Assumes nothing.
-use Rattle.std.specs.Prelude.{◌≡◌, ℕ, ◌+◌, ◌*◌, ◌/◌, ◌%◌, ◌^◌, ◌<◌, false, cond, ◌&&◌, ◌==◌, nat_le}
+use Rattle.std.specs.Prelude.{◌≡◌, ℕ, ◌+◌, ◌*◌, ◌/◌, ◌%◌, ◌^◌, ◌<◌, false, cond, ◌&&◌, Some, None, Option, ◌==◌, nat_le}
 use Rattle.script.specs.declared.cells.CellParts.{CellParts}
+use Rattle.script.specs.declared.cells.Mark.{Mark}
+use Rattle.script.specs.declared.cells.Mark.TheVariants.{Point, Comma, Semicolon}
+
+-- the number that a mark has in a cell
+abbrev pub mark_number : Option Mark → ℕ
+mark_number None = 0
+mark_number (Some Point) = 1
+mark_number (Some Comma) = 2
+mark_number (Some Semicolon) = 3
+
+abbrev mark_by : ℕ → Option Mark
+mark_by n = cond (n == 1) (Some Point) (cond (n == 2) (Some Comma) (cond (n == 3) (Some Semicolon) None))
+
+abbrev pub mark_of : ℕ → Option Mark
+mark_of cell = mark_by (cell / 0x100_0000_0000 % 4)
 
 abbrev pub parts_of : ℕ → CellParts
-parts_of cell = record { code = cell % 256; table = cell / 0x100 % 256; set = cell / 0x1_0000 % 256; mark = cell / 0x100_0000_0000 % 4; user = (cell / 0x400_0000_0000 % 2 == 1) }
+parts_of cell = record { code = cell % 256; table = cell / 0x100 % 256; set = cell / 0x1_0000 % 256; mark = mark_of cell; user = (cell / 0x400_0000_0000 % 2 == 1) }
 
 abbrev glyph_by : CellParts → ℕ
 glyph_by p = cond p.user 0x2592 (cond (nat_le 0x20 p.code && nat_le p.code 0x7E) p.code 0x25A1)
@@ -12,9 +27,15 @@ glyph_by p = cond p.user 0x2592 (cond (nat_le 0x20 p.code && nat_le p.code 0x7E)
 abbrev pub glyph_of : ℕ → ℕ
 glyph_of cell = glyph_by (parts_of cell)
 
--- the signs of the four marks: blank, point, comma, semicolon
-abbrev sign_by : ℕ → ℕ
-sign_by mark = cond (mark == 1) 46 (cond (mark == 2) 44 (cond (mark == 3) 59 32))
+abbrev pub char_of : Mark → ℕ
+char_of Point = 46
+char_of Comma = 44
+char_of Semicolon = 59
+
+-- a mark as it is written: none is a blank
+abbrev sign_by : Option Mark → ℕ
+sign_by None = 32
+sign_by (Some m) = char_of m
 
 abbrev pub sign_of : ℕ → ℕ
 sign_of cell = sign_by (parts_of cell).mark
@@ -22,5 +43,5 @@ sign_of cell = sign_by (parts_of cell).mark
 -- the parts of a built-in character's cell are those that it was written with
 abbrev pub PartsTell : Type 0
 PartsTell =
-    (code table set mark : ℕ) → code < 256 → table < 256 → set < 256 → mark < 4
-    → parts_of (code + 256 * table + 65536 * set + 2 ^ 40 * mark) ≡ record { code = code; table = table; set = set; mark = mark; user = false }
+    (code table set : ℕ) (mark : Option Mark) → code < 256 → table < 256 → set < 256
+    → parts_of (code + 256 * table + 65536 * set + 2 ^ 40 * mark_number mark) ≡ record { code = code; table = table; set = set; mark = mark; user = false }

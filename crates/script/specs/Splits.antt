@@ -27,6 +27,11 @@ comment (b ∷ bs) = b == 35
 abbrev pub words_of : List ℕ → List (List ℕ)
 words_of bs = cond (comment bs) [] (gather [] bs)
 
+-- the bytes from the first word on
+abbrev pub from_word : List ℕ → List ℕ
+from_word [] = []
+from_word (b ∷ bs) = cond (blank b) (from_word bs) (b ∷ bs)
+
 -- what follows a word and one blank; the flag says whether the word has begun
 abbrev pub after : Bool → List ℕ → List ℕ
 after begun [] = []

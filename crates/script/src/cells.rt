@@ -1,15 +1,46 @@
 // A cell taken apart (RULES, Cells), and the signs that stand for it in a picture.
 ghost use Rattle.std.specs.Prelude.{◌≡◌, ◌+◌, ◌*◌, ◌^◌, ◌<◌};
-ghost use Rattle.script.specs.Signs.{parts_of, glyph_of, sign_of, PartsTell};
+ghost use Rattle.script.specs.Signs.{mark_of, char_of, parts_of, glyph_of, sign_of, PartsTell};
 
-#[derive(Clone, Copy)]
+// A mark beside a character.
+#[derive(Clone, Copy, Debug, PartialEq, Eq)]
+pub enum Mark {
+    Point,
+    Comma,
+    Semicolon,
+}
+
+impl From<Mark> for char {
+    ghost from_gives = { λ m c. c ≡ char_of m };
+
+    fn from(mark: Mark) -> char {
+        match mark {
+            Mark::Point => '.',
+            Mark::Comma => ',',
+            Mark::Semicolon => ';',
+        }
+    }
+}
+
+#[derive(Clone, Copy, Debug, PartialEq, Eq)]
 pub struct CellParts {
     pub code: u8,
     pub table: u8,
     pub set: u8,
-    // 0 none, 1 a point, 2 a comma, 3 a semicolon
-    pub mark: u8,
+    pub mark: Option<Mark>,
+    // A user character: then the three bytes are its first columns.
     pub user: bool,
+}
+
+fn read_mark(cell: u64) -> Option<Mark>
+    ensures { result ≡ mark_of cell }
+{
+    match cell / 0x100_0000_0000 % 4 {
+        1 => Some(Mark::Point),
+        2 => Some(Mark::Comma),
+        3 => Some(Mark::Semicolon),
+        _ => None,
+    }
 }
 
 pub fn parts(cell: u64) -> CellParts
@@ -20,7 +51,7 @@ pub fn parts(cell: u64) -> CellParts
         code: (cell % 256) as u8,
         table: (cell / 0x100 % 256) as u8,
         set: (cell / 0x1_0000 % 256) as u8,
-        mark: (cell / 0x100_0000_0000 % 4) as u8,
+        mark: read_mark(cell),
         user: cell / 0x400_0000_0000 % 2 == 1,
     }
 }
@@ -29,13 +60,13 @@ pub fn parts(cell: u64) -> CellParts
 pub fn glyph(cell: u64) -> char
     ensures { result ≡ glyph_of cell }
 {
-    let CellParts { code, user, .. } = parts(cell);
-    if user {
-        '▒'
-    } else if 0x20 <= code && code <= 0x7E {
-        code as char
-    } else {
-        '□'
+    match parts(cell) {
+        CellParts { user: true, .. } => '▒',
+        CellParts {
+            code: code @ 0x20..=0x7E,
+            ..
+        } => code as char,
+        _ => '□',
     }
 }
 
@@ -43,10 +74,5 @@ pub fn glyph(cell: u64) -> char
 pub fn sign(cell: u64) -> char
     ensures { result ≡ sign_of cell }
 {
-    match parts(cell).mark {
-        1 => '.',
-        2 => ',',
-        3 => ';',
-        _ => ' ',
-    }
+    parts(cell).mark.map_or(' ', char::from)
 }

@@ -1,57 +1,33 @@
 // Numbers in decimal, and bytes in hex.
-ghost use Rattle.std.specs.Prelude.{◌≡◌, ◌/◌, ◌%◌, ◌<◌, [], ◌∷◌, IfSome};
-ghost use Rattle.script.specs.Figures.{digit_value, number_of, hex_value, hex_byte, hex_digit, hex_of, ReadsBack};
-
-fn digit(byte: u8) -> Option<u8>
-    ensures value { result ≡ digit_value byte }
-    ensures bound { IfSome result (λ d. d < 10) }
-{
-    match byte {
-        b'0'..=b'9' => Some(byte - b'0'),
-        _ => None,
-    }
-}
+ghost use Rattle.std.specs.Prelude.{◌≡◌, ◌/◌, ◌%◌, ◌<◌, [], ◌∷◌};
+ghost use Rattle.script.specs.Figures.{number_of, hex_byte, hex_digit, hex_of, ReadsBack};
 
 // The number that one to nine decimal digits write.
 pub fn number(word: &[u8]) -> Option<u32>
     ensures { result ≡ number_of word.now }
 {
-    if word.len() < 1 || word.len() > 9 {
+    if !(1..=9).contains(&word.len()) {
         return None;
     }
     let mut value = 0;
     for byte in word {
-        let Some(digit) = digit(*byte) else {
-            return None;
-        };
-        value = 10 * value + digit as u32;
+        value = 10 * value + char::from(*byte).to_digit(10)?;
     }
     Some(value)
 }
 
-fn hex_value(byte: u8) -> Option<u8>
-    ensures { result ≡ hex_value byte }
-{
-    match byte {
-        b'0'..=b'9' => Some(byte - b'0'),
-        b'A'..=b'F' => Some(byte - b'A' + 10),
-        b'a'..=b'f' => Some(byte - b'a' + 10),
-        _ => None,
-    }
-}
-
 // The byte that two hex digits write, in either case.
+#[tactic(auto, using(crate::proofs::Steps::reads_back))]
 pub fn read_hex(word: &[u8]) -> Option<u8>
     ensures value { result ≡ hex_byte word.now }
     ensures always { ReadsBack }
 {
-    if word.len() != 2 {
+    let [high, low] = word else {
         return None;
-    }
-    match (hex_value(word[0]), hex_value(word[1])) {
-        (Some(high), Some(low)) => Some(16 * high + low),
-        _ => None,
-    }
+    };
+    let high = char::from(*high).to_digit(16)?;
+    let low = char::from(*low).to_digit(16)?;
+    Some((16 * high + low) as u8)
 }
 
 fn hex_digit(value: u8) -> u8
@@ -66,6 +42,7 @@ fn hex_digit(value: u8) -> u8
 }
 
 // A byte as two hex digits: reading them gives the byte back.
+#[tactic(auto, using(crate::proofs::Steps::reads_back))]
 pub fn write_hex(byte: u8) -> [u8; 2]
     ensures value { result ≡ hex_of byte }
     ensures always { ReadsBack }

@@ -1,15 +1,14 @@
 // The lines of a script (RULES, Script of the program).
-ghost use Rattle.std.specs.Prelude.{◌≡◌, ◌≤◌, length};
+ghost use Rattle.std.specs.Prelude.{◌≡◌, ◌+◌, ◌^◌, ◌<◌, length};
 
 pub mod next;
 
-// The lines from the place `at` on; `number` of them were handed out.
+// The lines of the rest of a script; `number` of them were handed out.
 #[derive(Drop)]
 pub struct Lines<'a> {
-    input: &'a [u8],
-    at: usize,
+    rest: &'a [u8],
     number: usize,
-    ghost ok: { (at ≤ length input.now) × (number ≤ at) },
+    ghost ok: { number + length rest.now < 2 ^ 64 },
 }
 
 impl Lines<'_> {

@@ -1,21 +1,19 @@
-use Rattle.std.proofs.Common.{◌+◌, drop, sym, ap, ◌∙◌, arith}
+use Rattle.std.proofs.Common.{◌∙◌, ◌+◌, sym, ap, drop, arith, rules, tests}
 use Rattle.std.proofs.lemmas.List.{take_rest, drop_all}
-use Rattle.std.proofs.lemmas.Bool.{cond-true, cond-false}
-use Rattle.script.specs.Splits.{after}
-use Rattle.script.proofs.Steps.{after_more, after_end}
+use Rattle.std.proofs.lemmas.Iterator.{YieldsList-from_slice}
+use Rattle.std.proofs.lemmas.Iterator.Search.{position_from_yields_List}
+use Rattle.script.specs.Splits.{blank}
+use Rattle.script.proofs.Steps.{place_found, place_none, after_is}
 use Rattle.script.proofs.words.after_first.Goals as goal
-use Rattle.script.proofs.words.after_first.Goals.{then-not-is_blank, else-not-is_blank+else-begun}
 
-pub returns-then-begun : goal.returns-then-begun
-returns-then-begun c =
-    take_rest c.args.line.now _ ∙ sym (sym c.loop-i.invariant ∙ after_more c.args.line.now _ _ c.loop-i-test.true ∙ cond-true _ _ _ (sym c.is_blank.ensures ∙ c.if-not-is_blank.false) ∙ cond-true _ _ _ c.if-begun.true)
+pub returns-in-Some : goal.returns-in-Some
+returns-in-Some c =
+    let word = c.from_word-word.result.now in
+    let end = place_found blank word _ _ (position_from_yields_List blank _ _ c.position.result c.position.ensures.ran (YieldsList-from_slice word cc) (λ x r q k. search (rules, tests))) c.in-Some.is in
+    take_rest word _ ∙ ap (λ n. drop (n + 1) word) end ∙ sym (after_is c.args.line.now word c.from_word-word.ensures)
 
-pub loop-i-preserved : goal.loop-i-preserved
-loop-i-preserved c =
-    elim c.if-not-is_blank.branch [
-      | then-not-is_blank w ↦ ap (λ t. after t (drop (c.loop-i.i + 1) c.args.line.now)) w.begun-is ∙ sym (after_more c.args.line.now _ _ c.loop-i-test.true ∙ cond-false _ _ _ (sym c.is_blank.ensures ∙ w.if-not-is_blank.true)) ∙ c.loop-i.invariant
-      | else-not-is_blank+else-begun w ↦ ap (λ t. after t (drop (c.loop-i.i + 1) c.args.line.now)) (w.begun-is ∙ w.if-begun.false) ∙ sym (after_more c.args.line.now _ _ c.loop-i-test.true ∙ cond-true _ _ _ (sym c.is_blank.ensures ∙ w.if-not-is_blank.false) ∙ cond-false _ _ _ w.if-begun.false) ∙ c.loop-i.invariant
-    ]
-
-pub returns : goal.returns
-returns c = take_rest c.args.line.now _ ∙ drop_all _ c.args.line.now (omega arith) ∙ sym (sym c.loop-i.invariant ∙ after_end c.args.line.now _ _ c.loop-i-test.false)
+pub returns-in-None : goal.returns-in-None
+returns-in-None c =
+    let word = c.from_word-word.result.now in
+    let end = place_none blank word _ (position_from_yields_List blank _ _ c.position.result c.position.ensures.ran (YieldsList-from_slice word cc) (λ x r q k. search (rules, tests))) c.in-None.is in
+    sym (after_is c.args.line.now word c.from_word-word.ensures ∙ drop_all _ word (omega (arith, end)))
