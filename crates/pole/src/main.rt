@@ -6,13 +6,13 @@ mod play;
 mod show;
 
 use play::Play;
+use script::lines::Lines;
 use std::io::Read;
 
 fn run(rt: &HostRuntime) -> anyhow::Result<()> {
     let mut input = Vec::new(rt.alloc());
     rt.stdin().read_to_end(&mut input)?;
-    let mut play = Play::over(rt, input.as_slice())?;
-    play.run()
+    Play::new(rt)?.run(&mut Lines::new(input.as_slice()))
 }
 
 fn main(rt: HostRuntime) -> anyhow::Result<()> {

@@ -1,34 +1,40 @@
 // The lines of a script: those before a display is on, and those while one is on.
-use crate::{answers, show};
+ghost use Rattle.std.specs.Prelude.{◌<◌, ◌≤◌, length, IfOk, IfSome};
+
+use crate::answers::{Glass, Told, ToldFault};
+use crate::show::Picture;
 use display::display::Display;
 use display::words::Question;
 use history::compare::{same, same_faults};
 use history::replay::{Happening, replay};
 use items::walk::walk;
 use list::BoundedList;
+use panel::draw::cells;
 use panel::{Panel, PlainPanel};
 use requests::parse::request;
 use requests::requests::{Mistake, Request};
 use script::lines::Lines;
 use script::words::{after_first, hex_bytes, words};
-use terms::fault::{DisplayFault, Fault};
+use terms::fault::{Fault, UNUSED};
 use terms::settings::Settings;
 
 // The fault places of a feed, unless `room` says fewer.
 const MOST_PLACES: usize = 8192;
 
-// What a fault place holds before it is used.
-const UNUSED: Fault = Fault::Said {
-    fault: DisplayFault::WindowDefined,
-};
-
-// A script with the place that was reached in it, and the places that a feed lends.
+// The places that a feed lends, and how many of them.
 #[derive(Drop)]
-pub struct Play<'r, 'a> {
+pub struct Play<'r> {
     rt: &'r HostRuntime,
-    lines: Lines<'a>,
     places: Vec<Fault>,
     room: usize,
+}
+
+// A line of the script, by its number, and its words.
+#[derive(Drop)]
+struct Line<'a> {
+    number: usize,
+    text: &'a [u8],
+    words: Vec<&'a [u8]>,
 }
 
 // A display that is on, with all that it was given since.
@@ -40,68 +46,97 @@ struct Life<P> {
     faults: Vec<Fault>,
 }
 
-impl<'r, 'a> Play<'r, 'a> {
-    pub fn over(rt: &'r HostRuntime, input: &'a [u8]) -> anyhow::Result<Play<'r, 'a>> {
-        let places = vec![in rt.alloc(); UNUSED; MOST_PLACES]?;
+impl<'a> Line<'a> {
+    fn request(&self) -> Result<Request, Mistake> {
+        request(self.words.as_slice())
+    }
+
+    // The words after the first.
+    fn operands(&self) -> &[&'a [u8]] {
+        match self.words.as_slice() {
+            [_, operands @ ..] => operands,
+            [] => &[],
+        }
+    }
+}
+
+impl<'r> Play<'r> {
+    pub fn new(rt: &'r HostRuntime) -> anyhow::Result<Play<'r>> {
         Ok(Play {
             rt,
-            lines: Lines::new(input),
-            places,
+            places: vec![in rt.alloc(); UNUSED; MOST_PLACES]?,
             room: MOST_PLACES,
         })
     }
 
+    // The next line of the script.
+    fn line<'a>(&self, lines: &mut Lines<'a>) -> anyhow::Result<Option<Line<'a>>>
+        ensures less { IfOk result (λ o. IfSome o (λ _. length lines.new.rest.now < length lines.old.rest.now)) }
+        ensures no_more { length lines.new.rest.now ≤ length lines.old.rest.now }
+    {
+        let Some(text) = lines.next() else {
+            return Ok(None);
+        };
+        Ok(Some(Line {
+            number: lines.number(),
+            text,
+            words: words(self.rt.alloc(), text)?,
+        }))
+    }
+
     // Every line is answered; a display that is still on at the end is switched off silently.
-    pub fn run(&mut self) -> anyhow::Result<()> {
-        for _ in 0..u64::MAX {
-            let Some(line) = self.lines.next() else {
-                return Ok(());
-            };
-            let words = words(self.rt.alloc(), line)?;
-            match request(words.as_slice()) {
+    pub fn run(&mut self, lines: &mut Lines<'_>) -> anyhow::Result<()> {
+        while let Some(line) = self.line(lines)? {
+            match line.request() {
                 Ok(
                     Request::On {
                         set,
                         table,
                         brightness,
                     },
-                ) => self.switch_on(set, table, brightness)?,
-                Ok(request) => if !self.answer(request, words.as_slice())? {
-                    self.error(Mistake::DisplayOff)?;
+                ) => match Settings::check(set, table, brightness) {
+                    Ok(settings) => self.switch_on(lines, settings)?,
+                    Err(refusal) => self.refused(u8::from(refusal))?,
                 },
-                Err(mistake) => self.error(mistake)?,
+                Ok(request) => if !self.answer(&line, request)? {
+                    self.error(&line, Mistake::DisplayOff)?;
+                },
+                Err(mistake) => self.error(&line, mistake)?,
             }
         }
         Ok(())
     }
 
-    fn error(&self, mistake: Mistake) -> anyhow::Result<()> {
-        let number = self.lines.number();
-        println!(self.rt; "error {number}: {mistake}")?;
+    fn error(&self, line: &Line<'_>, mistake: Mistake) -> anyhow::Result<()> {
+        println!(self.rt; "error {}: {mistake}", line.number)?;
+        Ok(())
+    }
+
+    fn refused(&self, number: u8) -> anyhow::Result<()> {
+        println!(self.rt; "refused {number}")?;
         Ok(())
     }
 
     // What needs no display; false for all else.
-    fn answer(&mut self, request: Request, words: &[&[u8]]) -> anyhow::Result<bool> {
+    fn answer(&mut self, line: &Line<'_>, request: Request) -> anyhow::Result<bool> {
         match request {
             Request::Nothing => {}
             Request::Room { places } => {
                 self.room = places as usize;
                 println!(self.rt; "room {places}")?;
             }
-            Request::Items => self.items(operands(words))?,
+            Request::Items => self.items(line)?,
             _ => return Ok(false),
         }
         Ok(true)
     }
 
-    fn items(&self, words: &[&[u8]]) -> anyhow::Result<()> {
+    fn items(&self, line: &Line<'_>) -> anyhow::Result<()> {
         let heap = self.rt.alloc();
-        let Some(bytes) = hex_bytes(heap, words)? else {
-            return self.error(Mistake::NoByte);
+        let Some(bytes) = hex_bytes(heap, line.operands())? else {
+            return self.error(line, Mistake::NoByte);
         };
-        let parts = walk(heap, bytes.as_slice())?;
-        for part in parts.iter() {
+        for part in walk(heap, bytes.as_slice())?.iter() {
             let place = part.place;
             let length = part.bytes.len();
             let kind = u8::from(part.kind);
@@ -111,62 +146,53 @@ impl<'r, 'a> Play<'r, 'a> {
         Ok(())
     }
 
-    fn switch_on(&mut self, set: u8, table: u8, brightness: u8) -> anyhow::Result<()> {
-        match Settings::check(set, table, brightness) {
-            Err(refusal) => answers::refused(self.rt, refusal.number()),
-            Ok(settings) => {
-                println!(self.rt; "on")?;
-                let heap = self.rt.alloc();
-                let display = Display::switch_on(settings, PlainPanel::new());
-                self.play(Life {
-                    settings,
-                    display,
-                    happened: Vec::new(heap),
-                    faults: Vec::new(heap),
-                })
-            }
-        }
+    fn switch_on(&mut self, lines: &mut Lines<'_>, settings: Settings) -> anyhow::Result<()>
+        ensures { length lines.new.rest.now ≤ length lines.old.rest.now }
+    {
+        println!(self.rt; "on")?;
+        let heap = self.rt.alloc();
+        let life = Life {
+            settings,
+            display: Display::switch_on(settings, PlainPanel::new()),
+            happened: Vec::new(heap),
+            faults: Vec::new(heap),
+        };
+        self.play(lines, life)
     }
 
     // The lines while a display is on, over a panel of any make.
-    fn play<P: Panel + Drop>(&mut self, life: Life<P>) -> anyhow::Result<()> {
-        let mut life = life;
-        for _ in 0..u64::MAX {
-            let Some(line) = self.lines.next() else {
-                break;
-            };
-            let words = words(self.rt.alloc(), line)?;
-            match request(words.as_slice()) {
+    fn play<P: Panel + Drop>(
+        &mut self,
+        lines: &mut Lines<'_>,
+        mut life: Life<P>,
+    ) -> anyhow::Result<()>
+        ensures { length lines.new.rest.now ≤ length lines.old.rest.now }
+    {
+        while let Some(line) = self.line(lines)? {
+            match line.request() {
                 Ok(Request::Off) => {
                     println!(self.rt; "off")?;
                     break;
                 }
-                Ok(request) => if !self.answer(request, words.as_slice())? {
-                    self.say(&mut life, request, line, words.as_slice())?;
+                Ok(request) => if !self.answer(&line, request)? {
+                    self.say(&mut life, &line, request)?;
                 },
-                Err(mistake) => self.error(mistake)?,
+                Err(mistake) => self.error(&line, mistake)?,
             }
         }
-        let Life {
-            settings: _,
-            display,
-            happened: _,
-            faults: _,
-        } = life;
-        let _panel = display.switch_off();
+        let _panel = life.display.switch_off();
         Ok(())
     }
 
     fn say<P: Panel + Drop>(
         &mut self,
         life: &mut Life<P>,
+        line: &Line<'_>,
         request: Request,
-        line: &[u8],
-        words: &[&[u8]],
     ) -> anyhow::Result<()> {
         match request {
-            Request::Feed => self.feed_words(life, operands(words)),
-            Request::Text => self.feed(life, after_first(line)),
+            Request::Feed => self.feed_words(life, line),
+            Request::Text => self.feed(life, after_first(line.text)),
             Request::Tick { count } => self.tick(life, count),
             Request::Painted => {
                 life.display.painted();
@@ -174,36 +200,45 @@ impl<'r, 'a> Play<'r, 'a> {
                 Ok(())
             }
             Request::Replay => self.replay(life),
-            _ => self.ask(&life.display, request),
+            Request::Glass => {
+                println!(self.rt; "{}", Glass(cells(life.display.panel())))?;
+                Ok(())
+            }
+            Request::Show => {
+                println!(self.rt; "{}", Picture(&life.display))?;
+                Ok(())
+            }
+            _ => match question(request) {
+                Some(question) => self.ask(&life.display, question),
+                None => self.error(line, Mistake::DisplayOn),
+            },
         }
     }
 
-    fn feed_words<P: Panel>(&mut self, life: &mut Life<P>, words: &[&[u8]]) -> anyhow::Result<()> {
-        match hex_bytes(self.rt.alloc(), words)? {
+    fn feed_words<P: Panel>(&mut self, life: &mut Life<P>, line: &Line<'_>) -> anyhow::Result<()> {
+        match hex_bytes(self.rt.alloc(), line.operands())? {
             Some(bytes) => self.feed(life, bytes.as_slice()),
-            None => self.error(Mistake::NoByte),
+            None => self.error(line, Mistake::NoByte),
         }
     }
 
     fn feed<P: Panel>(&mut self, life: &mut Life<P>, piece: &[u8]) -> anyhow::Result<()> {
         let places = self.places.as_mut_slice();
         let room = self.room.min(places.len());
-        let mut faults = BoundedList::over(&mut places[0..room]);
+        let mut faults = BoundedList::over(&mut places[..room]);
         match life.display.feed(piece, &mut faults) {
             Ok(count) => {
                 println!(self.rt; "fed {count}")?;
-                for n in 0..count {
-                    if let Some(fault) = faults.nth(n) {
-                        answers::fault(self.rt, fault)?;
-                        life.faults.push(fault)?;
-                    }
+                for fault in faults.as_slice() {
+                    println!(self.rt; "{}", ToldFault(*fault))?;
                 }
-                for byte in piece {
-                    life.happened.push(Happening::Byte { byte: *byte })?;
+                life.faults.extend_from_slice(faults.as_slice())?;
+                for &byte in piece {
+                    life.happened.push(Happening::Byte { byte })?;
                 }
                 Ok(())
             }
-            Err(refusal) => answers::refused(self.rt, refusal.number()),
+            Err(refusal) => self.refused(u8::from(refusal)),
         }
     }
 
@@ -217,38 +252,17 @@ impl<'r, 'a> Play<'r, 'a> {
         }
         println!(self.rt; "ticked {count}")?;
         for fault in life.faults.iter().skip(before) {
-            answers::fault(self.rt, *fault)?;
+            println!(self.rt; "{}", ToldFault(*fault))?;
         }
         Ok(())
     }
 
-    fn ask<P: Panel>(&self, display: &Display<P>, request: Request) -> anyhow::Result<()> {
-        match request {
-            Request::Cell { column, row } => answers::ask(
-                self.rt,
-                display,
-                Question::Cell { column, row },
-            ),
-            Request::Cursor => answers::ask(self.rt, display, Question::Cursor),
-            Request::Window { number } => answers::ask(
-                self.rt,
-                display,
-                Question::Window { number },
-            ),
-            Request::User { code } => answers::ask(self.rt, display, Question::User { code }),
-            Request::Macro { index } => answers::ask(
-                self.rt,
-                display,
-                Question::Macro {
-                    index: index as usize,
-                },
-            ),
-            Request::Lamp => answers::ask(self.rt, display, Question::Lamp),
-            Request::Modes => answers::ask(self.rt, display, Question::Modes),
-            Request::Glass => answers::glass(self.rt, display),
-            Request::Show => show::picture(self.rt, display),
-            _ => self.error(Mistake::DisplayOn),
+    fn ask<P: Panel>(&self, display: &Display<P>, question: Question) -> anyhow::Result<()> {
+        match display.ask(question) {
+            Ok(answer) => println!(self.rt; "{}", Told(answer))?,
+            Err(refusal) => self.refused(u8::from(refusal))?,
         }
+        Ok(())
     }
 
     // All that the display was given is given again to a new one, byte by byte and tick by tick.
@@ -270,7 +284,18 @@ impl<'r, 'a> Play<'r, 'a> {
     }
 }
 
-// The words after the first.
-fn operands<'b, 'a>(words: &'b [&'a [u8]]) -> &'b [&'a [u8]] {
-    if words.len() > 0 { &words[1..] } else { words }
+// The question that a request asks, if it asks one.
+fn question(request: Request) -> Option<Question> {
+    match request {
+        Request::Cell { column, row } => Some(Question::Cell { column, row }),
+        Request::Cursor => Some(Question::Cursor),
+        Request::Window { number } => Some(Question::Window { number }),
+        Request::User { code } => Some(Question::User { code }),
+        Request::Macro { index } => Some(Question::Macro {
+            index: index as usize,
+        }),
+        Request::Lamp => Some(Question::Lamp),
+        Request::Modes => Some(Question::Modes),
+        _ => None,
+    }
 }

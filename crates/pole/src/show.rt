@@ -3,91 +3,86 @@
 use display::display::Display;
 use display::words::{Answer, Question};
 use panel::Panel;
+use panel::draw::cells;
 use reader::words::Mode;
 use script::cells::{glyph, sign};
 use state::controller::questions::Modes;
-use state::moves::Cursor;
+use std::fmt;
 
-// A line of the picture: the characters of a row, or their marks.
-fn line<P: Panel>(
-    rt: &HostRuntime,
-    display: &Display<P>,
-    row: u8,
-    marks: bool,
-) -> anyhow::Result<()> {
-    print!(rt; "|")?;
-    for column in 1..=20 {
-        if let Ok(Answer::Cell { cell }) = display.ask(Question::Cell { column, row }) {
-            let shown = if marks { sign(cell) } else { glyph(cell) };
-            print!(rt; "{shown}")?;
+const FRAME: &str = "+--------------------+";
+
+#[derive(Drop)]
+pub struct Picture<'a, P>(pub &'a Display<P>);
+
+impl<P: Panel> fmt::Display for Picture<'_, P> {
+    fn fmt<W: fmt::Write>(&self, f: &mut fmt::Formatter<W>) -> fmt::Result {
+        writeln!(f, "{FRAME}")?;
+        for row in cells(self.0.panel()).chunks(20) {
+            line(f, row, glyph)?;
+            line(f, row, sign)?;
+        }
+        writeln!(f, "{FRAME}")?;
+        if let Ok(Answer::Cursor { cursor }) = self.0.ask(Question::Cursor) {
+            write!(f, "cursor {} {}", cursor.column, cursor.row)?;
+        }
+        if let Ok(Answer::Modes { modes }) = self.0.ask(Question::Modes) {
+            state(f, modes)?;
+        }
+        match self.0.ask(Question::Lamp) {
+            Ok(Answer::Lamp { lit: true }) => f.write_str(", lamp lit"),
+            _ => f.write_str(", lamp dark"),
         }
     }
-    println!(rt; "|")?;
-    Ok(())
 }
 
-fn frame(rt: &HostRuntime) -> anyhow::Result<()> {
-    println!(rt; "+--------------------+")?;
-    Ok(())
-}
-
-pub fn picture<P: Panel>(rt: &HostRuntime, display: &Display<P>) -> anyhow::Result<()> {
-    frame(rt)?;
-    line(rt, display, 1, false)?;
-    line(rt, display, 1, true)?;
-    line(rt, display, 2, false)?;
-    line(rt, display, 2, true)?;
-    frame(rt)?;
-    if let Ok(Answer::Cursor { cursor }) = display.ask(Question::Cursor) {
-        place(rt, cursor)?;
+// A line of the picture: the characters of a row, or their marks.
+fn line<W: fmt::Write, F: Fn(u64) -> char>(
+    f: &mut fmt::Formatter<W>,
+    row: &[u64],
+    shown: F,
+) -> fmt::Result
+    requires { F.IsAlwaysCallable shown }
+{
+    f.write_char('|')?;
+    for cell in row {
+        f.write_char(shown(*cell))?;
     }
-    if let Ok(Answer::Modes { modes }) = display.ask(Question::Modes) {
-        state(rt, modes)?;
-    }
-    if let Ok(Answer::Lamp { lit }) = display.ask(Question::Lamp) {
-        let lamp = if lit { "lit" } else { "dark" };
-        println!(rt; ", lamp {lamp}")?;
-    }
-    Ok(())
+    f.write_str("|\n")
 }
 
-fn place(rt: &HostRuntime, cursor: Cursor) -> anyhow::Result<()> {
-    let column = cursor.column;
-    let row = cursor.row;
-    print!(rt; "cursor {column} {row}")?;
-    Ok(())
-}
-
-fn state(rt: &HostRuntime, modes: Modes) -> anyhow::Result<()> {
+fn state<W: fmt::Write>(f: &mut fmt::Formatter<W>, modes: Modes) -> fmt::Result {
     let shown = if modes.cursor { "shown" } else { "hidden" };
     let mode = match modes.mode {
         Mode::Overwrite => "overwrite",
         Mode::Vertical => "vertical",
         Mode::Horizontal => "horizontal",
     };
-    let window = modes.window;
-    let brightness = modes.brightness;
-    let table = modes.table;
-    let set = modes.set;
+    let window = modes.window.map_or(0, u8::from);
+    let Modes {
+        brightness,
+        table,
+        set,
+        blink,
+        ..
+    } = modes;
     let selected = if modes.selected {
         "selected"
     } else {
         "deselected"
     };
-    let blink = modes.blink;
-    print!(rt;
+    write!(
+        f,
         " {shown}, mode {mode}, window {window}, brightness {brightness}, table {table}, set {set}"
     )?;
-    print!(rt; ", {selected}")?;
+    write!(f, ", {selected}")?;
     if modes.user {
-        print!(rt; ", user characters")?;
+        f.write_str(", user characters")?;
     }
     if modes.recording {
-        print!(rt; ", recording")?;
+        f.write_str(", recording")?;
     }
     if modes.playing {
-        print!(rt; ", playing")?;
+        f.write_str(", playing")?;
     }
-    print!(rt; ", blink {blink}")?;
-    Ok(())
+    write!(f, ", blink {blink}")
 }
