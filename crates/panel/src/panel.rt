@@ -21,9 +21,6 @@ pub trait Panel {
     // What a panel of this make means.
     ghost make: { Make Self };
 
-    // What each make shows of its meaning. (A member and not a `law`: no `law` is proved of a type with a lifetime.)
-    ghost laws: { Laws make };
-
     // Refused exactly above place 39, and then the panel is as it was.
     fn put(&mut self, place: usize, cell: u64) -> Result<(), PanelRefusal>
         ensures answer { result ≡ (if nat_lt place 40 then Ok tt else Err PanelRefusal.OffGlass) }
@@ -36,4 +33,7 @@ pub trait Panel {
     // Tells the panel that what it holds was shown.
     fn painted(&mut self)
         ensures { make.paints self.old self.new };
+
+    // What each make shows of its meaning.
+    ghost laws: { Laws make };
 }

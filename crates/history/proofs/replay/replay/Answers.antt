@@ -30,7 +30,7 @@ returns g c =
         calls = subst (λ hs. Calls p.make d (events_of hs) (vec_items c.loop-happening.faults) c.loop-happening.display)
             (take_all c.loop-happening.happening-index c.args.script.now c.loop-happening-test.false) c.loop-happening.invariant;
       };
-      history = history p.make p.laws p.make p.laws;
+      history = history p.make g.met.P.Panel.laws p.make g.met.P.Panel.laws;
     }
 
 pub returns-in_err-happen : goal.returns-in_err-happen
@@ -38,5 +38,5 @@ returns-in_err-happen g c =
     let p = g.P.Panel in
     record {
       lived = search rules;
-      history = history p.make p.laws p.make p.laws;
+      history = history p.make g.met.P.Panel.laws p.make g.met.P.Panel.laws;
     }

@@ -5,4 +5,4 @@ pub returns : goal.returns
 returns g c =
     let p = g.P.Panel in
     let q = g.Q.Panel in
-    history p.make p.laws q.make q.laws
+    history p.make g.met.P.Panel.laws q.make g.met.Q.Panel.laws

@@ -6,7 +6,7 @@ use Rattle.panel.proofs.draw.draw_at.Goals as goal
 pub returns-in-Some : goal.returns-in-Some
 returns-in-Some g c =
     record {
-      cells = c.step.ensures.cells ∙ drawn_one _ _ _ _ _ (g.P.Panel.laws.forty _) c.requires (sym c.in-Some.is ∙ c.place.ensures);
+      cells = c.step.ensures.cells ∙ drawn_one _ _ _ _ _ (g.met.P.Panel.laws.forty _) c.requires (sym c.in-Some.is ∙ c.place.ensures);
       reached = c.step.ensures.reached;
     }
 

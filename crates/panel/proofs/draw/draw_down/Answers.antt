@@ -5,13 +5,13 @@ use Rattle.panel.proofs.Steps.{fall_none, fall_more, fall_all}
 use Rattle.panel.proofs.draw.draw_down.Goals as goal
 
 pub loop-place-init : goal.loop-place-init
-loop-place-init g c = (fall_none _ _ (g.P.Panel.laws.forty _), none)
+loop-place-init g c = (fall_none _ _ (g.met.P.Panel.laws.forty _), none)
 
 pub loop-place-preserved : goal.loop-place-preserved
 loop-place-preserved g c = (
-  fall_more _ _ (g.P.Panel.laws.forty _) _ _ _ c.requires (g.P.Panel.laws.forty _) (omega arith) (omega arith) c.loop-place.invariant.0 c.step.ensures.cells,
+  fall_more _ _ (g.met.P.Panel.laws.forty _) _ _ _ c.requires (g.met.P.Panel.laws.forty _) (omega arith) (omega arith) c.loop-place.invariant.0 c.step.ensures.cells,
   reached_trans c.loop-place.invariant.1 c.step.ensures.reached,
 )
 
 pub returns : goal.returns
-returns g c = record { cells = fall_all _ _ (g.P.Panel.laws.forty _) _ _ (g.P.Panel.laws.forty _) (omega arith) c.loop-place.invariant.0; reached = c.loop-place.invariant.1 }
+returns g c = record { cells = fall_all _ _ (g.met.P.Panel.laws.forty _) _ _ (g.met.P.Panel.laws.forty _) (omega arith) c.loop-place.invariant.0; reached = c.loop-place.invariant.1 }

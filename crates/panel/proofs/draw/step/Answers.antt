@@ -7,7 +7,7 @@ use Rattle.panel.proofs.draw.step.Goals.{else-holds-via-then-holds+else-touches,
 pub returns-then-touches : goal.returns-then-touches
 returns-then-touches g c =
     let h = c.put.ensures.puts c.requires in
-    let e = g.P.Panel.laws.putting _ _ _ _ h in
+    let e = g.met.P.Panel.laws.putting _ _ _ _ h in
     record { cells = grind arith; reached = reached_one _ _ c.requires h }
 
 pub returns-else-holds : goal.returns-else-holds

@@ -17,7 +17,7 @@ returns-in-Some g c =
     let low : c.in-Some.spot < 40 = omega arith in
     let h = c.put.ensures.puts low in
     record {
-      cells = g.P.Panel.laws.putting _ _ _ _ h ∙ ap (λ k. set cs k c.args.cell) is ∙ sym (cond-true _ (set cs (place x y) c.args.cell) cs at.0);
+      cells = g.met.P.Panel.laws.putting _ _ _ _ h ∙ ap (λ k. set cs k c.args.cell) is ∙ sym (cond-true _ (set cs (place x y) c.args.cell) cs at.0);
       reached = reached_one _ _ low h;
     }
 

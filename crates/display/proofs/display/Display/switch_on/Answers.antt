@@ -7,6 +7,6 @@ pub returns : goal.returns
 returns g c =
     let p = c.args.panel in
     record {
-      state = state_path _ _ c.new.ensures (c.draw.ensures.cells ∙ blank_whole (g.P.Panel.make.cells p) (g.P.Panel.laws.forty p));
+      state = state_path _ _ c.new.ensures (c.draw.ensures.cells ∙ blank_whole (g.P.Panel.make.cells p) (g.met.P.Panel.laws.forty p));
       reached = c.draw.ensures.reached;
     }

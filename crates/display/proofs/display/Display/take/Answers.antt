@@ -24,7 +24,7 @@ returns-then-is_typing g c =
       state =
           state_path _ _ (c.type_on.ensures ∙ t.shortly.core)
           (c.write_cell.ensures.cells ∙ (λ i. written (at i).column (at i).row (v i) cs)
-          ∙ drawn_cell (window k) k.layout.column k.layout.row (typed_cell b k) cs (g.P.Panel.laws.forty p) t.inside
+          ∙ drawn_cell (window k) k.layout.column k.layout.row (typed_cell b k) cs (g.met.P.Panel.laws.forty p) t.inside
           ∙ ap (λ ss. drawn_all ss cs) t.shortly.strokes);
       grown = subst (λ fs. Grown c.args.faults.now fs c.args.faults.now) t.shortly.faults (grown_none c.args.faults.now);
       reached = c.write_cell.ensures.reached;
