@@ -1,6 +1,6 @@
 -- Displays compared, over panels of any two makes.
 use Rattle.panel.specs.Laws.{Make}
-use Rattle.std.specs.Prelude.{◌≡◌, ℕ, List}
+use Rattle.std.specs.Prelude.{◌≡◌, ℕ}
 use Rattle.display.specs.declared.words.Question.{Question}
 use Rattle.display.specs.declared.words.Question.TheVariants.{Cell, Cursor, Window, User, Macro, Lamp, Modes}
 use Rattle.display.specs.declared.display.Display.{Display}

@@ -1,6 +1,6 @@
 -- The history theorem: what two displays show that lived any lives, over panels of any two makes.
 use Rattle.panel.specs.Laws.{Make}
-use Rattle.std.specs.Prelude.{◌≡◌, ℕ, Bool, true, false, List, [], ◌++◌, Result}
+use Rattle.std.specs.Prelude.{◌≡◌, Bool, true, false, List, [], ◌++◌, Result}
 use Rattle.glass.specs.Places.{holds, whole, inside}
 use Rattle.terms.specs.declared.fault.Fault.{Fault}
 use Rattle.terms.specs.Presets.{Preset}

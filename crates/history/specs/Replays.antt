@@ -1,6 +1,6 @@
 -- What a script says: its events, in order.
 use Rattle.panel.specs.Laws.{Make}
-use Rattle.std.specs.Prelude.{◌≡◌, ℕ, List, [], ◌∷◌, ◌++◌, map}
+use Rattle.std.specs.Prelude.{◌≡◌, List, [], ◌∷◌, ◌++◌, map}
 use Rattle.terms.specs.declared.fault.Fault.{Fault}
 use Rattle.state.specs.Model.{Event, byte, tick}
 use Rattle.display.specs.declared.display.Display.{Display}
