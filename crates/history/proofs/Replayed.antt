@@ -1,36 +1,24 @@
 -- One happening more in a life.
 use Rattle.panel.specs.Laws.{Make}
-use Rattle.std.proofs.Common.{◌≡◌, ℕ, ◌+◌, ◌<◌, ◌≤◌, ltb, List, [], ◌∷◌, ◌++◌, map, length, get_or, take, set, Some, None, Option, Result, sym, refl, ap, ◌∙◌, subst, subst₂, append_assoc, arith}
-use Rattle.std.proofs.lemmas.List.{append-nil, map_more, length-set, length-take}
+use Rattle.std.proofs.Common.{OnOk, is_ok, cond, Ok, Err, ◌≡◌, ℕ, ◌+◌, ◌<◌, ◌≤◌, ltb, List, [], ◌∷◌, ◌++◌, length, get_or, take, Some, None, Option, Result, sym, ap, ◌∙◌, subst, subst₂, append_assoc, arith}
+use Rattle.std.proofs.lemmas.List.{append-nil, map_more}
 use Rattle.std.proofs.lemmas.Option.{MatchOption-at_none}
 use Rattle.std.proofs.lemmas.Bool.{le-ltb, cond-false}
-use Rattle.std.specs.List.{slice_get}
 use Rattle.list.specs.declared.list.BoundedList.{BoundedList}
-use Rattle.list.specs.Entries.{entries, places, capacity}
+use Rattle.list.specs.Entries.{entries, capacity}
 use Rattle.terms.specs.declared.fault.Fault.{Fault}
-use Rattle.state.specs.Model.{Event, byte, tick, fault_of, faults}
+use Rattle.state.specs.Model.{Event, byte, tick, fault_of}
 use Rattle.display.specs.declared.words.FeedRefusal.{FeedRefusal}
 use Rattle.display.specs.declared.words.FeedRefusal.TheVariants.{FewPlaces}
 use Rattle.display.specs.declared.display.Display.{Display}
-use Rattle.display.specs.Calls.{view, feed_cause, free, laid, Accepts, Refuses, Feeds, Ticks}
+use Rattle.display.specs.Calls.{feed_cause, free, Accepts, Refuses, Feeds, Ticks}
 use Rattle.history.specs.declared.replay.words.Happening.{Happening}
 use Rattle.history.specs.Lives.{accepted, Calls, none, fed, ticked, painted, asked}
 use Rattle.history.specs.Replays.{event_of, events_of, Happens}
 
-laid-length : {A : Type 0} (xs : List A) (n : ℕ) (ys : List A) → length (laid xs n ys) ≡ length xs
-laid-length xs n [] = refl
-laid-length xs n (y ∷ ys) = laid-length (set xs n y) (n + 1) ys ∙ length-set xs n y
-
 -- a byte with two free places is never refused
 accepts : (b : ℕ) (l : BoundedList Fault) → 2 ≤ free l → feed_cause (b ∷ []) l ≡ None
 accepts b l room = cond-false (ltb (free l) 2) (Some FewPlaces) None (le-ltb (free l) 2 room)
-
--- two at most
-both : (xs : List Fault) → length xs ≤ 2 → fault_of (slice_get xs 0) ++ fault_of (slice_get xs 1) ≡ xs
-both [] h = refl
-both (x ∷ []) h = refl
-both (x ∷ y ∷ []) h = refl
-both (x ∷ y ∷ z ∷ zs) h = absurd (omega arith)
 
 module _ {P : Type 0} (make : Make P) where
   calls-append : (d d₁ d₂ : Display P) (es es' : List Event) (fs fs' : List Fault) → Calls make d es fs d₁ → Calls make d₁ es' fs' d₂ →
@@ -50,24 +38,25 @@ module _ {P : Type 0} (make : Make P) where
       Happens make tick d hs d' all
   happens_tick d d' r hs all h j = record { given = fault_of r; calls = ticked r none h; joined = j }
 
-  -- a byte, fed with an empty list over two places, and the two entries then collected
-  pub happens_byte : (b : ℕ) (d d' : Display P) (l l' : BoundedList Fault) (r : Result ℕ FeedRefusal) (o o' : Option Fault) (hs mid all : List Fault) →
-      entries l ≡ [] → capacity l ≡ 2 → Feeds make d (b ∷ []) l r d' l' →
-      o ≡ slice_get (entries l') 0 → o' ≡ slice_get (entries l') 1 → mid ≡ hs ++ fault_of o → all ≡ mid ++ fault_of o' →
-      Happens make (byte b) d hs d' all
-  happens_byte b d d' l l' r o o' hs mid all empty two h is is' p q =
+  -- a byte, fed with an empty list over two places, and its entries then collected
+  pub happens_byte : (b : ℕ) (d d' : Display P) (l l' : BoundedList Fault) (r : Result ℕ FeedRefusal) (hs all : List Fault) →
+      entries l ≡ [] → capacity l ≡ 2 → Feeds make d (b ∷ []) l r d' l' → all ≡ hs ++ entries l' → Happens make (byte b) d hs d' all
+  happens_byte b d d' l l' r hs all empty two h joined =
       let piece = b ∷ [] in
       let room : 2 ≤ free l = omega (arith, ap length empty, two) in
       let took = MatchOption-at_none (Accepts make d piece l r d' l') (λ e. Refuses make e d l r d' l') (accepts b l room) h in
-      let long : capacity l' ≡ capacity l = ap length took.grown.places ∙ laid-length (places l) (length (entries l)) (faults (view make d) (map byte piece)) in
-      let few : length (entries l') ≤ 2 = omega (arith, length-take l'.len (places l'), long, two) in
-      let all_of : fault_of o ++ fault_of o' ≡ entries l' = (λ i. fault_of (is i) ++ fault_of (is' i)) ∙ both (entries l') few in
       record {
         given = entries l';
         calls = subst (λ x. Calls make d (accepted x piece) (entries l') d') took.answers
             (fed (entries l') piece l l' r none h (ap (λ z. z ++ entries l') (sym empty)));
-        joined = q ∙ ap (λ z. z ++ fault_of o') p ∙ append_assoc hs (fault_of o) (fault_of o') ∙ ap (λ z. hs ++ z) all_of;
+        joined = joined;
       }
+
+  -- unless there was no memory to collect them
+  pub gives_byte : {E : Type 0} (told : Result (Unit {0}) E) (b : ℕ) (d d' : Display P) (l l' : BoundedList Fault) (r : Result ℕ FeedRefusal) (hs all : List Fault) →
+      entries l ≡ [] → capacity l ≡ 2 → Feeds make d (b ∷ []) l r d' l' → all ≡ cond (is_ok told) (hs ++ entries l') hs → OnOk told (Happens make (byte b) d hs d' all)
+  gives_byte (Ok u) b d d' l l' r hs all empty two h joined = happens_byte b d d' l l' r hs all empty two h joined
+  gives_byte (Err e) b d d' l l' r hs all empty two h joined = tt
 
   -- one happening more of a script
   pub script_more : (first d d' : Display P) (hs : List Happening) (i : ℕ) (o x : Happening) (fs all : List Fault) → i < length hs → x ≡ get_or hs i o →

@@ -36,10 +36,8 @@ fn give_byte<P: Panel>(
 {
     let mut places = [UNUSED; 2];
     let mut list = BoundedList::over(&mut places);
-    let piece = [byte];
-    let _ = display.feed(&piece, &mut list);
-    collect(faults, list.nth(0))?;
-    collect(faults, list.nth(1))
+    let _ = display.feed(&[byte], &mut list);
+    faults.extend_from_slice(list.as_slice())
 }
 
 fn happen<P: Panel>(
