@@ -8,14 +8,15 @@ use Rattle.display.specs.declared.display.Display.{Display}
 use Rattle.display.specs.declared.words.FeedRefusal.{FeedRefusal}
 use Rattle.display.specs.Calls.{feed_cause, Accepts, Refuses}
 use Rattle.strip.specs.declared.strip.StripPanel.{StripPanel}
-use Rattle.strip.specs.Strip.{picture_of, waiting_of, merged, cells_of, Paints}
-use Rattle.strip.specs.Waiting.{puts_of, Grown, Overran, Kept}
+use Rattle.strip.specs.Laws.{strip}
+use Rattle.strip.specs.Strip.{picture_of, waiting_of, merged, cells_of}
+use Rattle.strip.specs.Waiting.{Grown, Overran, Kept}
 use Rattle.strip.proofs.Waiting.{keeps_waiting}
 use Rattle.painter.specs.Held.{HoldsWaiting}
 use Rattle.painter.specs.Screen.{Current, ScreenShows}
 
 feeds_keeps : (o : Option FeedRefusal) (d d' : Display StripPanel) (piece : List ℕ) (l l' : BoundedList Fault) (r : Result ℕ FeedRefusal) →
-    MatchOption o (Accepts cells_of puts_of Paints d piece l r d' l') (λ e. Refuses cells_of puts_of Paints e d l r d' l') → Kept d.panel d'.panel
+    MatchOption o (Accepts strip d piece l r d' l') (λ e. Refuses strip e d l r d' l') → Kept d.panel d'.panel
 feeds_keeps None d d' piece l l' r h = keeps_waiting d.panel d'.panel h.reached
 feeds_keeps (Some e) d d' piece l l' r h = subst (λ x. Kept d.panel x.panel) (sym h.display) (keeps_waiting d.panel d.panel none)
 

@@ -7,15 +7,16 @@ use Rattle.display.specs.declared.display.Display.{Display}
 use Rattle.display.specs.declared.words.FeedRefusal.{FeedRefusal}
 use Rattle.display.specs.Calls as calls
 use Rattle.strip.specs.declared.strip.StripPanel.{StripPanel}
-use Rattle.strip.specs.Strip.{cells_of, Paints}
-use Rattle.strip.specs.Waiting.{puts_of, Kept}
+use Rattle.strip.specs.Laws.{strip}
+use Rattle.strip.specs.Strip.{Paints}
+use Rattle.strip.specs.Waiting.{Kept}
 
 -- Switching on, feeding and ticking keep what waits, or raise the flag; only a display's painted empties the list
 -- and lowers the flag; switching off gives back list, picture and flag as they are.
 pub record HoldsWaiting : Type 0 where
-  pub on : (settings : Preset) (p : StripPanel) (d : Display StripPanel) → calls.SwitchesOn cells_of puts_of Paints settings p d → Kept p d.panel
+  pub on : (settings : Preset) (p : StripPanel) (d : Display StripPanel) → calls.SwitchesOn strip settings p d → Kept p d.panel
   pub fed : (d d' : Display StripPanel) (piece : List ℕ) (l l' : BoundedList Fault) (r : Result ℕ FeedRefusal) →
-      calls.Feeds cells_of puts_of Paints d piece l r d' l' → Kept d.panel d'.panel
-  pub ticked : (d d' : Display StripPanel) (r : Option Fault) → calls.Ticks cells_of puts_of Paints d r d' → Kept d.panel d'.panel
-  pub painted : (d d' : Display StripPanel) → calls.Paints cells_of puts_of Paints d d' → Paints d.panel d'.panel
-  pub off : (d : Display StripPanel) (p : StripPanel) → calls.SwitchesOff cells_of puts_of Paints d p → p ≡ d.panel
+      calls.Feeds strip d piece l r d' l' → Kept d.panel d'.panel
+  pub ticked : (d d' : Display StripPanel) (r : Option Fault) → calls.Ticks strip d r d' → Kept d.panel d'.panel
+  pub painted : (d d' : Display StripPanel) → calls.Paints strip d d' → Paints d.panel d'.panel
+  pub off : (d : Display StripPanel) (p : StripPanel) → calls.SwitchesOff strip d p → p ≡ d.panel

@@ -10,7 +10,7 @@ use display::display::Display;
 use strip::StripPanel;
 
 // What is still to be painted: how many changes wait, and whether all places are to be painted.
-#[derive(Clone, Copy)]
+#[derive(Clone, Copy, Debug, PartialEq, Eq)]
 pub struct Pending {
     pub count: usize,
     pub all: bool,

@@ -15,10 +15,7 @@ const NO_FAULT: Fault = Fault::Said {
 };
 
 fn settings() -> Result<Settings, Fail> {
-    match Settings::check(0, 0, 4) {
-        Ok(settings) => Ok(settings),
-        Err(_) => Err(Fail::new("lawful settings")),
-    }
+    Settings::check(0, 0, 4).map_err(|_| Fail::new("lawful settings"))
 }
 
 // A text that scrolls, a mark, and a window with a text of its own.
@@ -26,13 +23,11 @@ fn feed<P: Panel>(rt: &impl Abort, display: &mut Display<P>) -> Result<(), Fail>
     let mut places = [NO_FAULT; 128];
     let mut faults = BoundedList::over(&mut places);
     let piece = b"\x1f\x02Coffee\n\r3\x1f.25\nTea\x1bW\x01\x01\x05\x01\x08\x01ABCDE\x0d";
-    match display.feed(piece, &mut faults) {
-        Ok(given) => {
-            assert_eq!(rt; given, 0);
-            Ok(())
-        },
-        Err(_) => Err(Fail::new("a lawful piece")),
-    }
+    let given = display
+        .feed(piece, &mut faults)
+        .map_err(|_| Fail::new("a lawful piece"))?;
+    assert_eq!(rt; given, 0);
+    Ok(())
 }
 
 #[test]
@@ -56,10 +51,7 @@ fn three_makes_show_the_same(rt: HostRuntime) -> Result<(), Fail> {
 fn a_refused_put_is_not_counted(rt: HostRuntime) -> Result<(), Fail> {
     let mut panel = RowsPanel::new();
     assert!(rt; panel.put(39, 65).is_ok());
-    match panel.put(40, 66) {
-        Ok(()) => return Err(Fail::new("a put off the glass")),
-        Err(refusal) => assert_eq!(rt; refusal.number(), 41),
-    }
+    assert_eq!(rt; panel.put(40, 66).map_err(u8::from), Err(41));
     assert_eq!(rt; panel.puts(), 1);
     Ok(())
 }

@@ -1,27 +1,21 @@
 -- Puts alone lose nothing that waits, unless they raise the flag.
-use Rattle.std.proofs.Common.{◌≡◌, ℕ, ◌<◌, ◌⊎◌, [], ◌∷◌, ◌++◌, length, sym, refl, ap, ◌∙◌, inl, inr, ⊎_elim, append_assoc, arith}
+use Rattle.std.proofs.Common.{◌≡◌, ℕ, ◌<◌, ◌⊎◌, [], ◌∷◌, ◌++◌, length, sym, refl, ap, ◌∙◌, inl, inr, append_assoc}
 use Rattle.std.proofs.lemmas.List.{append-nil, length-set}
-use Rattle.std.proofs.lemmas.Bool.{cases_lt}
 use Rattle.list.specs.Entries.{capacity}
 use Rattle.panel.specs.Laws.{Reached, none, more}
 use Rattle.panel.proofs.Puts.{reached_one}
 use Rattle.strip.specs.declared.strip.Change.{Change}
 use Rattle.strip.specs.declared.strip.StripPanel.{StripPanel}
 use Rattle.strip.specs.Strip.{picture_of, waiting_of, merged, Puts, Appends, Overflows, Writes}
-use Rattle.strip.specs.Waiting.{puts_of, Grown, Overran, Kept, KeepsWaiting}
-
--- which of the three cases of a put it was
-cases : {Z : Type 0} (s t : StripPanel) (c : Change) → Puts s c t → (Appends s c t → Z) → (Overflows s c t → Z) → (Writes s c t → Z) → Z
-cases s t c h a o w =
-    ⊎_elim (λ l. a (h.room l)) (λ f. ⊎_elim (λ l. o (h.full f l)) (λ l. w (h.empty (omega arith))) (cases_lt 0 (capacity s.changes)))
-    (cases_lt (length (waiting_of s)) (capacity s.changes))
+use Rattle.strip.specs.Laws.{strip, put_cases}
+use Rattle.strip.specs.Waiting.{Grown, Overran, Kept, KeepsWaiting}
 
 put_capacity : (s t : StripPanel) (c : Change) → Puts s c t → capacity t.changes ≡ capacity s.changes
 put_capacity s t c h =
-    cases s t c h (λ a. ap length a.places ∙ length-set _ _ _) (λ o. ap length o.places ∙ length-set _ _ _) (λ w. ap length w.places)
+    put_cases s t c h (λ a. ap length a.places ∙ length-set _ _ _) (λ o. ap length o.places ∙ length-set _ _ _) (λ w z. ap length w.places)
 
 -- one put more
-module _ (s q r : StripPanel) (k v : ℕ) (on : k < 40) (way : Reached puts_of s q) (h : puts_of q k v r) where
+module _ (s q r : StripPanel) (k v : ℕ) (on : k < 40) (way : Reached strip.puts s q) (h : strip.puts q k v r) where
   appended : Appends q (record { place = k; cell = v }) r → Grown s q ⊎ Overran s q → Grown s r ⊎ Overran s r
   appended a (inl g) =
       inl (record {
@@ -42,7 +36,7 @@ module _ (s q r : StripPanel) (k v : ℕ) (on : k < 40) (way : Reached puts_of s
   kept_more : Kept s q → Kept s r
   kept_more b =
       record {
-        list = cases q r (record { place = k; cell = v }) h (λ a. appended a b.list) overflowed wrote;
+        list = put_cases q r (record { place = k; cell = v }) h (λ a. appended a b.list) overflowed (λ w z. wrote w);
         capacity = put_capacity q r (record { place = k; cell = v }) h ∙ b.capacity;
         lent = h.lent ∙ b.lent;
       }

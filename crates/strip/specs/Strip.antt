@@ -1,12 +1,12 @@
 -- What a strip panel means, and what a put and a painting leave of it.
-use Rattle.std.specs.Prelude.{◌≡◌, ℕ, ◌<◌, ◌≤◌, true, false, List, [], ◌∷◌, ◌++◌, length, slice_set}
+use Rattle.std.specs.Prelude.{◌≡◌, ℕ, ◌<◌, ◌≤◌, Bool, true, false, List, [], ◌∷◌, ◌++◌, length, slice_set}
 use Rattle.list.specs.Entries.{entries, places, capacity}
-use Rattle.strip.specs.Forty.{forty}
+use Rattle.panel.specs.Plain.{plain_cells}
 use Rattle.strip.specs.declared.strip.Change.{Change}
 use Rattle.strip.specs.declared.strip.StripPanel.{StripPanel}
 
 abbrev pub picture_of : StripPanel → List ℕ
-picture_of s = forty s.picture.held
+picture_of s = plain_cells s.picture
 
 -- the changes that wait to be painted, oldest first
 abbrev pub waiting_of : StripPanel → List Change
@@ -20,21 +20,17 @@ merged p (c ∷ cs) = merged (slice_set p c.place c.cell) cs
 abbrev pub cells_of : StripPanel → List ℕ
 cells_of s = merged (picture_of s) (waiting_of s)
 
--- the changes are in the picture, and the list is empty; its places, and the flag, are as they were
-pub record Merged (s t : StripPanel) : Type 0 where
+-- The changes are in the picture, the list is empty, and the flag is `all`; the places are as they were.
+pub record Merged (s : StripPanel) (all : Bool) (t : StripPanel) : Type 0 where
   pub picture : picture_of t ≡ cells_of s
   pub none : waiting_of t ≡ []
-  pub flag : t.all ≡ s.all
+  pub flag : t.all ≡ all
   pub places : places t.changes ≡ places s.changes
   pub lent : t.changes.slots.ghost_name ≡ s.changes.slots.ghost_name
 
 -- Painted: the changes are in the picture, the list is empty, and the flag is down.
-pub record Paints (s t : StripPanel) : Type 0 where
-  pub picture : picture_of t ≡ cells_of s
-  pub none : waiting_of t ≡ []
-  pub flag : t.all ≡ false
-  pub places : places t.changes ≡ places s.changes
-  pub lent : t.changes.slots.ghost_name ≡ s.changes.slots.ghost_name
+abbrev pub Paints : StripPanel → StripPanel → Type 0
+Paints s t = Merged s false t
 
 -- the change went to the end of the list
 pub record Appends (s : StripPanel) (c : Change) (t : StripPanel) : Type 0 where
@@ -60,7 +56,7 @@ pub record Writes (s : StripPanel) (c : Change) (t : StripPanel) : Type 0 where
 -- A full list was emptied into the picture and the flag raised; else nothing changed.
 pub record Roomed (s t : StripPanel) : Type 0 where
   pub room : length (waiting_of s) < capacity s.changes → t ≡ s
-  pub full : capacity s.changes ≤ length (waiting_of s) → (picture_of t ≡ cells_of s) × (waiting_of t ≡ []) × (t.all ≡ true) × (places t.changes ≡ places s.changes)
+  pub full : capacity s.changes ≤ length (waiting_of s) → Merged s true t
   pub lent : t.changes.slots.ghost_name ≡ s.changes.slots.ghost_name
 
 -- a change went to the end of the list, or into the picture

@@ -1,14 +1,11 @@
 -- What is left of a strip panel after puts alone, any number of them.
-use Rattle.std.specs.Prelude.{◌≡◌, ℕ, true, ◌⊎◌, List, ◌++◌}
+use Rattle.std.specs.Prelude.{◌≡◌, true, ◌⊎◌, List, ◌++◌}
 use Rattle.list.specs.Entries.{capacity}
 use Rattle.panel.specs.Laws.{Reached}
 use Rattle.strip.specs.declared.strip.Change.{Change}
 use Rattle.strip.specs.declared.strip.StripPanel.{StripPanel}
-use Rattle.strip.specs.Strip.{picture_of, waiting_of, cells_of, Puts}
-
--- one put, as the panels' interface has it
-abbrev pub puts_of : StripPanel → ℕ → ℕ → StripPanel → Type 0
-puts_of s k v t = Puts s (record { place = k; cell = v }) t
+use Rattle.strip.specs.Strip.{picture_of, waiting_of, cells_of}
+use Rattle.strip.specs.Laws.{strip}
 
 -- nothing that waited is lost: the picture and the flag are as they were, and the list has grown at its end
 pub record Grown (s t : StripPanel) : Type 0 where
@@ -21,8 +18,8 @@ pub record Grown (s t : StripPanel) : Type 0 where
 pub record Overran (s t : StripPanel) : Type 0 where
   pub flag : t.all ≡ true
   pub moment : StripPanel
-  pub before : Reached puts_of s moment
-  pub after : Reached puts_of moment t
+  pub before : Reached strip.puts s moment
+  pub after : Reached strip.puts moment t
   pub picture : picture_of t ≡ cells_of moment
 
 pub record Kept (s t : StripPanel) : Type 0 where
@@ -32,4 +29,4 @@ pub record Kept (s t : StripPanel) : Type 0 where
 
 -- As long as the flag is down, a painter that draws the waiting changes misses none.
 abbrev pub KeepsWaiting : Type 0
-KeepsWaiting = (s t : StripPanel) → Reached puts_of s t → Kept s t
+KeepsWaiting = (s t : StripPanel) → Reached strip.puts s t → Kept s t

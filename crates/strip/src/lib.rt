@@ -1,7 +1,6 @@
 // The strip panel: a picture, and a list of the changes that are not painted yet.
 #![tactic(auto)]
 
-mod picture;
 mod strip;
 
 pub use strip::{Change, StripPanel};

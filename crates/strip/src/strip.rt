@@ -1,26 +1,27 @@
 // A strip panel and what a painter asks of it.
 ghost use Rattle.std.specs.Prelude.{◌≡◌, false, [], length, replicate};
-ghost use Rattle.std.specs.List.{slice_get as nth_of};
+ghost use Rattle.std.specs.List.{slice_get};
 ghost use Rattle.list.specs.Entries.{places as places_of};
 ghost use Rattle.strip.specs.Strip.{picture_of, waiting_of};
 ghost use Rattle.strip.specs.Waiting.{KeepsWaiting};
 
-use crate::picture::Picture;
 use list::BoundedList;
+use panel::PlainPanel;
 
 pub mod cells;
 
 // A cell that was put at a place.
-#[derive(Clone, Copy)]
+#[derive(Clone, Copy, Debug, PartialEq, Eq)]
 pub struct Change {
     pub place: usize,
     pub cell: u64,
 }
 
-// The changes came after the picture, oldest first; `all` is the flag that tells the painter to paint all places.
+// The picture is the cells as they were when the list of changes began. The changes came after it, oldest first;
+// `all` is the flag that tells the painter to paint all places.
 #[derive(Drop)]
 pub struct StripPanel<'a> {
-    picture: Picture,
+    picture: PlainPanel,
     changes: BoundedList<'a, Change>,
     all: bool,
 }
@@ -35,10 +36,17 @@ impl<'a> StripPanel<'a> {
         ensures lent { result.changes.slots.ghost_name ≡ places.entry.ghost_name }
     {
         StripPanel {
-            picture: Picture::blank(),
+            picture: PlainPanel::new(),
             changes: BoundedList::over(places),
             all: false,
         }
+    }
+
+    // The changes that wait to be painted, oldest first.
+    pub fn changes(&self) -> &[Change]
+        ensures { result.now ≡ waiting_of self.now }
+    {
+        self.changes.as_slice()
     }
 
     // How many changes wait to be painted.
@@ -51,7 +59,7 @@ impl<'a> StripPanel<'a> {
 
     // The waiting change number n, counted from 0, oldest first.
     pub fn change(&self, n: usize) -> Option<Change>
-        ensures { result ≡ nth_of (waiting_of self.now) n }
+        ensures { result ≡ slice_get (waiting_of self.now) n }
     {
         self.changes.nth(n)
     }

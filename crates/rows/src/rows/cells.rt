@@ -11,11 +11,11 @@ const COLUMNS: usize = 20;
 const PLACES: usize = 40;
 
 impl Panel for RowsPanel {
-    ghost cells = { λ p. p.upper ++ p.lower };
-
-    ghost puts = { λ p place cell q. (q.upper ++ q.lower ≡ slice_set (p.upper ++ p.lower) place cell) × (q.puts ≡ min (p.puts + 1) (2 ^ 64 - 1)) };
-
-    ghost paints = { λ p q. q ≡ p };
+    ghost make = { record {
+      cells = λ p. p.upper ++ p.lower;
+      puts = λ p place cell q. (q.upper ++ q.lower ≡ slice_set (p.upper ++ p.lower) place cell) × (q.puts ≡ min (p.puts + 1) (2 ^ 64 - 1));
+      paints = λ p q. q ≡ p;
+    } };
 
     ghost laws = { record {
       forty = λ p. length-append p.upper p.lower ∙ omega (arith, p.twenty.0, p.twenty.1);
@@ -37,13 +37,12 @@ impl Panel for RowsPanel {
     }
 
     fn look(&self, place: usize) -> Result<u64, PanelRefusal> {
-        if place < COLUMNS {
-            Ok(self.upper[place])
-        } else if place < PLACES {
-            Ok(self.lower[place - COLUMNS])
+        let held = if place < COLUMNS {
+            self.upper.get(place)
         } else {
-            Err(PanelRefusal::OffGlass)
-        }
+            self.lower.get(place - COLUMNS)
+        };
+        held.copied().ok_or(PanelRefusal::OffGlass)
     }
 
     fn painted(&mut self) {}

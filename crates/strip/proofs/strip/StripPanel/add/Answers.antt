@@ -1,12 +1,12 @@
-use Rattle.std.proofs.Common.{sym, refl, ◌∙◌, arith}
-use Rattle.strip.proofs.Steps.{stuck}
+use Rattle.std.proofs.Common.{refl, arith}
+use Rattle.std.proofs.lemmas.Grind.{common_steps}
+use Rattle.strip.proofs.Steps.{pictured}
 use Rattle.strip.proofs.strip.StripPanel.add.Goals as goal
 
 pub returns-then-is_err : goal.returns-then-is_err
 returns-then-is_err c =
-    let full = stuck _ _ _ c.append.ensures.answer (sym c.is_err.ensures.value ∙ c.if-is_err.true) in
     record {
-      room = λ l. absurd (omega (arith, full));
-      full = λ _. (c.put.ensures, c.append.ensures.refused full, refl);
+      room = grind (arith, common_steps);
+      full = λ h. (pictured _ _ _ _ c.put.ensures.puts c.put.ensures.refused, c.append.ensures.refused h, refl);
       lent = c.append.ensures.lent;
     }

@@ -1,22 +1,15 @@
-use Rattle.std.proofs.Common.{sym, ap, ◌∙◌, arith}
-use Rattle.std.proofs.lemmas.List.{take_all}
-use Rattle.strip.specs.Latest.{latest}
+use Rattle.std.proofs.Common.{◌≡◌, eqb, rules, ◌∙◌}
+use Rattle.std.proofs.lemmas.Iterator.Adapters.{YieldsList-from_rev_slice}
+use Rattle.std.proofs.lemmas.Iterator.Search.{find_from_yields_List}
+use Rattle.std.specs.Option.{option_map}
+use borrow.Author.Tests.{tests}
+use Rattle.strip.specs.declared.strip.Change.{Change}
 use Rattle.strip.specs.Strip.{waiting_of}
-use Rattle.strip.proofs.Steps.{latest_here, latest_other, not_none, before_one}
+use Rattle.strip.proofs.Steps.{latest_found}
 use Rattle.strip.proofs.strip.StripPanel.latest.Goals as goal
 
-pub loop-n-init : goal.loop-n-init
-loop-n-init c = ap (latest c.args.place) (sym (take_all _ (waiting_of c.args.self.now) (omega (arith, c.count-count.ensures.value))))
-
-pub returns-then-latest-place : goal.returns-then-latest-place
-returns-then-latest-place c =
-    sym (c.loop-n.invariant ∙ before_one c.args.place (waiting_of c.args.self.now) c.loop-n.n (omega arith)
-    ∙ latest_here c.args.place (waiting_of c.args.self.now) _ c.in-Some.latest c.in-Some.ensures c.if-latest-place.true)
-
-pub loop-n-preserved-else-latest-place : goal.loop-n-preserved-else-latest-place
-loop-n-preserved-else-latest-place c =
-    c.loop-n.invariant ∙ before_one c.args.place (waiting_of c.args.self.now) c.loop-n.n (omega arith)
-    ∙ latest_other c.args.place (waiting_of c.args.self.now) _ c.in-Some.latest c.in-Some.ensures c.if-latest-place.false
-
-pub loop-n-preserved : goal.loop-n-preserved
-loop-n-preserved c = absurd (not_none (waiting_of c.args.self.now) _ (omega (arith, c.count-count.ensures.value, c.loop-n.auto.n)) c.in_default.ensures)
+pub returns : goal.returns
+returns c =
+    let cs = waiting_of c.args.self.now in
+    let mapped : c.map.result ≡ option_map (λ b. b.now.cell) c.find.result = search rules in
+    mapped ∙ latest_found c.args.place cs c.find.result (find_from_yields_List (λ (x : Change). eqb x.place c.args.place) _ _ c.find.result c.find.ensures.ran (YieldsList-from_rev_slice cs cc) (λ x b q k. search (rules, tests)))

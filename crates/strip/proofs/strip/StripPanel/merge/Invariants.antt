@@ -1,9 +1,7 @@
 use Rattle.std.proofs.Common.{◌≡◌, take}
-use Rattle.strip.specs.Strip.{picture_of, waiting_of, merged}
+use Rattle.panel.specs.Plain.{plain_cells}
+use Rattle.strip.specs.Strip.{merged}
 use Rattle.strip.proofs.strip.StripPanel.merge.Given as goal
 
-abbrev pub invariant-loop-n : goal.invariant-loop-n
-invariant-loop-n l =
-    (picture_of l.self ≡ merged (picture_of l.initial.self) (take l.n (waiting_of l.initial.self)))
-    × (l.self.changes ≡ l.initial.self.changes)
-    × (l.self.all ≡ l.initial.self.all)
+abbrev pub invariant-loop-place : goal.invariant-loop-place
+invariant-loop-place l = plain_cells l.self.1.0 ≡ merged (plain_cells l.initial.self.1.0) (take l.place-index l.place-items)
