@@ -1,18 +1,19 @@
 -- Changes one by one.
 use Rattle.std.proofs.Common.{◌≡◌, ℕ, ◌+◌, ◌<◌, ◌≤◌, Bool, true, false, cond, eqb, List, [], ◌∷◌, ◌++◌, length, get_or, take, reverse, set, Some, None, Option, sym, refl, ap, ◌∙◌, subst, ⊎_elim, Bor, arith}
 use Rattle.std.specs.List.{find}
-use Rattle.std.proofs.lemmas.List.{take_more, get_or-set_same, get_or-set_other, length-set, set_past}
-use Rattle.std.proofs.lemmas.Grind.{reverse_onto}
+use Rattle.std.specs.Option.{option_map, option_or, unwrap_or}
+use Rattle.std.proofs.lemmas.List.{take_more, get_or-set_other, length-set, set_past}
 use Rattle.std.proofs.lemmas.List.Folds.{find-append}
-use Rattle.std.proofs.lemmas.Bool.{cases_lt, cases_eq, eq-eqb, ne_eqb, cond-true, cond-false}
+use Rattle.std.proofs.lemmas.Grind.{reverse_onto, get_or-set_at}
+use Rattle.std.proofs.lemmas.Bool.{cases_lt}
+use Rattle.std.proofs.lemmas.Bool.Decides.{nat_tests}
 use Rattle.list.specs.Entries.{entries, places, capacity}
-use Rattle.strip.specs.declared.strip.Change.{Change}
-use Rattle.strip.specs.declared.strip.StripPanel.{StripPanel}
+use Rattle.panel.specs.declared.plain.PlainPanel.{PlainPanel}
 use Rattle.panel.specs.Forty.{forty_length}
 use Rattle.panel.specs.Plain.{plain_cells}
-use Rattle.panel.specs.declared.plain.PlainPanel.{PlainPanel}
-use Rattle.strip.specs.Strip.{picture_of, waiting_of, merged, Appends, Overflows, Writes, Roomed, Added, Puts}
-use Rattle.std.specs.Option.{option_map, option_or, unwrap_or}
+use Rattle.strip.specs.declared.strip.Change.{Change}
+use Rattle.strip.specs.declared.strip.StripPanel.{StripPanel}
+use Rattle.strip.specs.Strip.{picture_of, waiting_of, merged, HasRoom, IsFull, Appends, Overflows, Writes, Roomed, Added, Puts}
 use Rattle.strip.specs.Latest.{latest, Latest}
 use Rattle.strip.specs.Laws.{merged_push, none_waits}
 
@@ -37,23 +38,14 @@ here k c = cond (eqb c.place k) (Some c.cell) None
 
 latest_cell : (p : List ℕ) (cs : List Change) (k : ℕ) → k < length p → get_or (merged p cs) k 0 ≡ unwrap_or (latest k cs) (get_or p k 0)
 latest_cell p [] k h = refl
-latest_cell p (c ∷ cs) k h =
-    latest_cell (set p c.place c.cell) cs k (omega (arith, length-set p c.place c.cell))
-    ∙ ⊎_elim same other (cases_eq c.place k)
+latest_cell p (c ∷ cs) k h = latest_cell (set p c.place c.cell) cs k (omega (arith, length-set p c.place c.cell)) ∙ nested (latest k cs)
   where
-    join : (o : Option ℕ) (b : Option ℕ) (v : ℕ) → v ≡ unwrap_or b (get_or p k 0) → unwrap_or o v ≡ unwrap_or (option_or o b) (get_or p k 0)
-    join None b v e = e
-    join (Some w) b v e = refl
+    one : get_or (set p c.place c.cell) k 0 ≡ unwrap_or (here k c) (get_or p k 0)
+    one = grind (arith, nat_tests, get_or-set_at, get_or-set_other)
 
-    same : c.place ≡ k → unwrap_or (latest k cs) (get_or (set p c.place c.cell) k 0) ≡ unwrap_or (option_or (latest k cs) (here k c)) (get_or p k 0)
-    same e =
-        join (latest k cs) (here k c) (get_or (set p c.place c.cell) k 0)
-        (ap (λ j. get_or (set p j c.cell) k 0) e ∙ get_or-set_same p k c.cell 0 h ∙ ap (λ o. unwrap_or o (get_or p k 0)) (sym (cond-true (eqb c.place k) (Some c.cell) None (eq-eqb c.place k e))))
-
-    other : (c.place ≡ k → ⊥) → unwrap_or (latest k cs) (get_or (set p c.place c.cell) k 0) ≡ unwrap_or (option_or (latest k cs) (here k c)) (get_or p k 0)
-    other n =
-        join (latest k cs) (here k c) (get_or (set p c.place c.cell) k 0)
-        (get_or-set_other p c.place k c.cell 0 (λ e. n (sym e)) ∙ ap (λ o. unwrap_or o (get_or p k 0)) (sym (cond-false (eqb c.place k) (Some c.cell) None (ne_eqb c.place k n))))
+    nested : (o : Option ℕ) → unwrap_or o (get_or (set p c.place c.cell) k 0) ≡ unwrap_or (option_or o (here k c)) (get_or p k 0)
+    nested None = one
+    nested (Some w) = refl
 
 pub latest_holds : Latest
 latest_holds s k h = latest_cell (picture_of s) (waiting_of s) k (omega (arith, forty_length s.picture.held))
@@ -63,10 +55,10 @@ pub placed : (s m t : StripPanel) (c : Change) → Roomed s m → Added m c t �
 placed s m t c r a =
     record { room = room; full = full; empty = empty; lent = a.lent ∙ r.lent }
   where
-    room : length (waiting_of s) < capacity s.changes → Appends s c t
-    room l = subst (λ x. Appends x c t) (r.room l) (a.room (subst (λ x. length (waiting_of x) < capacity x.changes) (sym (r.room l)) l))
+    room : HasRoom s → Appends s c t
+    room l = subst (λ x. Appends x c t) (r.room l) (a.room (subst HasRoom (sym (r.room l)) l))
 
-    full : capacity s.changes ≤ length (waiting_of s) → 0 < capacity s.changes → Overflows s c t
+    full : IsFull s → 0 < capacity s.changes → Overflows s c t
     full f some =
         let e = r.full f in
         let none : length (waiting_of m) ≡ 0 = ap length e.none in

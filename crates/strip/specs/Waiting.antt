@@ -4,7 +4,7 @@ use Rattle.list.specs.Entries.{capacity}
 use Rattle.panel.specs.Laws.{Reached}
 use Rattle.strip.specs.declared.strip.Change.{Change}
 use Rattle.strip.specs.declared.strip.StripPanel.{StripPanel}
-use Rattle.strip.specs.Strip.{picture_of, waiting_of, cells_of}
+use Rattle.strip.specs.Strip.{picture_of, waiting_of, cells_of, KeepsLoan}
 use Rattle.strip.specs.Laws.{strip}
 
 -- nothing that waited is lost: the picture and the flag are as they were, and the list has grown at its end
@@ -25,7 +25,7 @@ pub record Overran (s t : StripPanel) : Type 0 where
 pub record Kept (s t : StripPanel) : Type 0 where
   pub list : Grown s t ⊎ Overran s t
   pub capacity : capacity t.changes ≡ capacity s.changes
-  pub lent : t.changes.slots.ghost_name ≡ s.changes.slots.ghost_name
+  pub lent : KeepsLoan s t
 
 -- As long as the flag is down, a painter that draws the waiting changes misses none.
 abbrev pub KeepsWaiting : Type 0

@@ -27,6 +27,7 @@ impl StripPanel<'_> {
         ensures { Merged self.old self.old.all self.new }
     {
         for &Change { place, cell } in self.changes.as_slice() {
+            // Refused only off the glass, where a picture has nothing to keep.
             let _ = self.picture.put(place, cell);
         }
         self.changes.clear();
@@ -71,8 +72,8 @@ impl<'a> Panel for StripPanel<'a> {
         ensures cell { result ≡ (if nat_lt place 40 then Ok (slice_index (cells_of self.now) place) else Err PanelRefusal.OffGlass) }
         ensures latest { Latest }
     {
-        let painted = self.picture.look(place)?;
-        Ok(self.latest(place).unwrap_or(painted))
+        let held = self.picture.look(place)?;
+        Ok(self.latest(place).unwrap_or(held))
     }
 
     fn painted(&mut self) {
