@@ -8,7 +8,7 @@ use std::fmt;
 use std::num::Saturating;
 use terms::fault::Fault;
 
-#[derive(Drop)]
+#[derive(Default, Drop)]
 pub struct Seen {
     bytes: Saturating<u64>,
     ticks: Saturating<u64>,
@@ -18,16 +18,6 @@ pub struct Seen {
 }
 
 impl Seen {
-    pub fn new() -> Seen {
-        Seen {
-            bytes: Saturating(0),
-            ticks: Saturating(0),
-            faults: Saturating(0),
-            glass: Sum::new(),
-            answers: Sum::new(),
-        }
-    }
-
     pub fn bytes(&mut self, count: usize) {
         self.bytes += count as u64;
     }

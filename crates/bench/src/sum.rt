@@ -6,13 +6,15 @@ pub struct Sum {
     code: u64,
 }
 
-impl Sum {
-    pub fn new() -> Sum {
+impl Default for Sum {
+    fn default() -> Sum {
         Sum {
             code: 0xCBF2_9CE4_8422_2325,
         }
     }
+}
 
+impl Sum {
     pub fn bytes(&mut self, bytes: &[u8]) {
         self.code = bytes.iter().fold(self.code, |code, byte| {
             (code ^ u64::from(*byte)).wrapping_mul(0x100_0000_01B3)

@@ -7,7 +7,7 @@ use display::display::Display;
 use items::walk::count;
 use panel::{Panel, PlainPanel};
 use std::mem::size_of;
-use std::time::Instant;
+use std::time::{Duration, Instant};
 use strip::StripPanel;
 
 const PIECE: usize = 4096;
@@ -18,14 +18,9 @@ const DAYS: u32 = 20;
 // A tenth of a hundred days, which are about a hundred million bytes.
 const TENTH: u32 = 10;
 
-fn per_second(bytes: usize, nanos: u64) -> u64 {
-    let rate = bytes as u128 * 1_000_000_000 / nanos.max(1) as u128;
+fn per_second(bytes: usize, time: Duration) -> u64 {
+    let rate = bytes as u128 * 1_000_000_000 / time.as_nanos().max(1);
     u64::try_from(rate).unwrap_or(u64::MAX)
-}
-
-fn nanos_since(rt: &HostRuntime, start: Instant) -> anyhow::Result<u64> {
-    let taken = start.elapsed(rt)?;
-    Ok(u64::try_from(taken.as_nanos()).unwrap_or(u64::MAX))
 }
 
 // Bytes per second on the fastest of some days.
@@ -37,11 +32,11 @@ fn fastest<F: FnMut(&[u8]) -> anyhow::Result<()>>(
 ) -> anyhow::Result<u64>
     requires { F.IsAlwaysCallable live }
 {
-    let mut best = u64::MAX;
+    let mut best = Duration::MAX;
     for _ in 0..days {
         let start = Instant::now(rt)?;
         live(day)?;
-        best = best.min(nanos_since(rt, start)?);
+        best = best.min(start.elapsed(rt)?);
     }
     Ok(per_second(day.len(), best))
 }
@@ -95,7 +90,7 @@ fn years(rt: &HostRuntime, day: &[u8]) -> anyhow::Result<()> {
 }
 
 fn about(rt: &HostRuntime, day: &[u8], sales: u32) -> anyhow::Result<()> {
-    let mut sum = Sum::new();
+    let mut sum = Sum::default();
     sum.bytes(day);
     let size = day.len();
     println!(rt; "day: {sales} sales, {size} bytes, checksum {sum}")?;

@@ -26,7 +26,7 @@ impl<P: Panel + Drop> Watched<P> {
         Ok(Watched {
             display: Display::switch_on(settings, panel),
             places: vec![in heap; UNUSED; 8192]?, // enough for the longest piece
-            seen: Seen::new(),
+            seen: Seen::default(),
         })
     }
 

@@ -11,7 +11,7 @@ use crate::watched::Watched;
 use display::display::Display;
 use display::words::{Answer, Question};
 use panel::PlainPanel;
-use std::alloc::AllocError;
+use std::alloc::{AllocError, Global};
 use strip::StripPanel;
 use terms::settings::Settings;
 
@@ -32,12 +32,11 @@ fn new_display(settings: Settings) -> Display<PlainPanel> {
 
 impl<'a> Life<'a> {
     pub fn new(
-        rt: &HostRuntime,
+        heap: Global,
         settings: Settings,
         seed: u64,
         strip: StripPanel<'a>,
     ) -> Result<Life<'a>, AllocError> {
-        let heap = rt.alloc();
         Ok(Life {
             settings,
             first: Watched::new(heap, new_display(settings))?,
@@ -83,7 +82,10 @@ impl<'a> Life<'a> {
     }
 
     fn is_playing(&self) -> bool {
-        matches!(self.first.display.ask(Question::Modes), Ok(Answer::Modes { modes }) if modes.playing)
+        matches!(
+            self.first.display.ask(Question::Modes),
+            Ok(Answer::Modes { modes }) if modes.playing
+        )
     }
 
     // In parts of a drawn size, from single bytes on.

@@ -38,7 +38,7 @@ fn run(rt: &HostRuntime) -> anyhow::Result<()> {
     let mut till = Till::new(SAID, events(rt)?);
     // So few places that the list of changes is often full.
     let mut places = [NO_CHANGE; 5];
-    let mut life = Life::new(rt, settings, CUT, StripPanel::over(&mut places))?;
+    let mut life = Life::new(rt.alloc(), settings, CUT, StripPanel::over(&mut places))?;
     // A turn may spend no event, so no measure of the till's ends the loop.
     for _ in 0..u64::MAX {
         let Some(turn) = till.turn() else {

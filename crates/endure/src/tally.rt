@@ -61,17 +61,6 @@ impl Tally {
             }
         }
     }
-
-    fn write_faults<W: fmt::Write>(
-        f: &mut fmt::Formatter<W>,
-        speaker: &str,
-        counts: &[Count],
-    ) -> fmt::Result {
-        for (cause, count) in counts.iter().enumerate().skip(1) {
-            writeln!(f, "fault {cause} from the {speaker} {}", count.0)?;
-        }
-        Ok(())
-    }
 }
 
 impl fmt::Display for Tally {
@@ -88,9 +77,12 @@ impl fmt::Display for Tally {
         ] {
             writeln!(f, "{what} {}", count.0)?;
         }
-        Self::write_faults(f, "host", &self.said)?;
         // A US ^ from the macro is always fault 7, and no macro has US : in it as a command: 8 and 9 stay at 0.
-        Self::write_faults(f, "macro", &self.played)?;
+        for (speaker, counts) in [("host", &self.said), ("macro", &self.played)] {
+            for (cause, count) in counts.iter().enumerate().skip(1) {
+                writeln!(f, "fault {cause} from the {speaker} {}", count.0)?;
+            }
+        }
         writeln!(f, "checksum {}", self.sum.code)?;
         write!(f, "differences {}", self.differences.0)
     }
