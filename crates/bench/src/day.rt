@@ -25,6 +25,7 @@ struct Dice {
 impl Dice {
     fn below(&mut self, n: u32) -> u32
         requires { 0 < n }
+        ensures { result < n }
     {
         self.state = self
             .state
@@ -61,29 +62,20 @@ const LONG: u32 = 400;
 
 const BRIEF: u32 = 40;
 
-// A name of fourteen characters.
-fn name(n: u32) -> &'static [u8] {
-    match n {
-        0 => b"MILK 1L       ",
-        1 => b"BREAD         ",
-        2 => b"EGGS x12      ",
-        3 => b"COFFEE 500G   ",
-        4 => b"APPLES KG     ",
-        5 => b"BUTTER        ",
-        6 => b"TEA           ",
-        _ => b"SOAP          ",
-    }
-}
+// Names of fourteen characters.
+const NAMES: [&[u8]; 8] = [
+    b"MILK 1L       ",
+    b"BREAD         ",
+    b"EGGS x12      ",
+    b"COFFEE 500G   ",
+    b"APPLES KG     ",
+    b"BUTTER        ",
+    b"TEA           ",
+    b"SOAP          ",
+];
 
-// A command that gives a fault: unknown, with an operand out of range, or for a window that is not defined.
-fn slip(n: u32) -> &'static [u8] {
-    match n {
-        0 => b"\x1Bz",
-        1 => b"\x1F$\x15\x01",
-        2 => b"\x1FX\x05",
-        _ => b"\x1BW\x01\x02",
-    }
-}
+// Commands that give a fault: unknown, with an operand out of range, and for a window that is not defined.
+const SLIPS: [&[u8]; 4] = [b"\x1Bz", b"\x1F$\x15\x01", b"\x1FX\x05", b"\x1BW\x01\x02"];
 
 fn digit(cents: u32, unit: u32) -> u8
     requires { 0 < unit }
@@ -124,7 +116,7 @@ impl Day {
     // The item and its price on the first row, the total on the second.
     fn sale(&mut self, dice: &mut Dice) -> Result<(), AllocError> {
         self.say(CLEAR)?;
-        self.say(name(dice.below(8)))?;
+        self.say(NAMES[dice.below(8) as usize])?;
         self.say(TO_PRICE)?;
         self.amount(dice.below(20_000), 10_000)?;
         self.say(TO_TOTAL)?;
@@ -149,7 +141,7 @@ impl Day {
         match dice.below(64) {
             0..=1 => self.message(VERTICAL),
             2..=3 => self.message(HORIZONTAL),
-            4 => self.say(slip(dice.below(4))),
+            4 => self.say(SLIPS[dice.below(4) as usize]),
             5 => {
                 self.say(MACRO)?;
                 self.wait(LONG)

@@ -6,6 +6,7 @@ mod play;
 mod seen;
 mod sum;
 mod time;
+mod watched;
 
 use day::Day;
 use std::env;

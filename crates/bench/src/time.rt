@@ -1,15 +1,14 @@
 // How fast a day goes, over and over, in the longest pieces.
 use crate::day::Day;
-use crate::play::{MOST_FAULTS, STRIP, UNUSED, feed, settings};
-use crate::seen::Seen;
+use crate::play::STRIP;
 use crate::sum::Sum;
+use crate::watched::Watched;
 use display::display::Display;
 use items::walk::count;
 use panel::{Panel, PlainPanel};
 use std::mem::size_of;
-use std::time::Instant;
+use std::time::{Duration, Instant};
 use strip::StripPanel;
-use terms::fault::Fault;
 
 const PIECE: usize = 4096;
 
@@ -19,109 +18,91 @@ const DAYS: u32 = 20;
 // A tenth of a hundred days, which are about a hundred million bytes.
 const TENTH: u32 = 10;
 
-fn per_second(bytes: usize, nanos: u64) -> u64 {
-    let rate = bytes as u128 * 1_000_000_000 / nanos.max(1) as u128;
+fn per_second(bytes: usize, time: Duration) -> u64 {
+    let rate = bytes as u128 * 1_000_000_000 / time.as_nanos().max(1);
     u64::try_from(rate).unwrap_or(u64::MAX)
 }
 
-fn nanos_since(rt: &HostRuntime, start: Instant) -> anyhow::Result<u64> {
-    let taken = start.elapsed(rt)?;
-    Ok(u64::try_from(taken.as_nanos()).unwrap_or(u64::MAX))
-}
-
-// The panel is painted after every piece, as on a till.
-fn feed_day<P: Panel>(
-    display: &mut Display<P>,
-    day: &[u8],
-    places: &mut [Fault],
-) -> anyhow::Result<()> {
-    let mut seen = Seen::new();
-    for piece in day.chunks(PIECE) {
-        feed(display, piece, places, &mut seen)?;
-        display.painted();
-    }
-    Ok(())
-}
-
 // Bytes per second on the fastest of some days.
-fn fastest<P: Panel>(
+fn fastest<F: FnMut(&[u8]) -> anyhow::Result<()>>(
     rt: &HostRuntime,
-    display: &mut Display<P>,
     day: &[u8],
-    places: &mut [Fault],
     days: u32,
-) -> anyhow::Result<u64> {
-    let mut best = u64::MAX;
+    mut live: F,
+) -> anyhow::Result<u64>
+    requires { F.IsAlwaysCallable live }
+{
+    let mut best = Duration::MAX;
     for _ in 0..days {
         let start = Instant::now(rt)?;
-        feed_day(display, day, places)?;
-        best = best.min(nanos_since(rt, start)?);
+        live(day)?;
+        best = best.min(start.elapsed(rt)?);
     }
     Ok(per_second(day.len(), best))
 }
 
-// The same on a new display over the panel.
-fn feeding<P: Panel + Drop>(
-    rt: &HostRuntime,
-    panel: P,
-    day: &[u8],
-    places: &mut [Fault],
-) -> anyhow::Result<u64> {
-    let mut display = Display::switch_on(settings()?, panel);
-    fastest(rt, &mut display, day, places, DAYS)
+// The panel is painted after every piece, as on a till.
+fn feed_day<P: Panel + Drop>(watched: &mut Watched<P>, day: &[u8]) -> anyhow::Result<()> {
+    for piece in day.chunks(PIECE) {
+        watched.feed(piece)?;
+        watched.display.painted();
+    }
+    Ok(())
 }
 
-fn panels(rt: &HostRuntime, day: &[u8], places: &mut [Fault]) -> anyhow::Result<()> {
-    let rate = feeding(rt, PlainPanel::new(), day, places)?;
+// The same for feeding a new display over the panel.
+fn feeding<P: Panel + Drop>(rt: &HostRuntime, panel: P, day: &[u8]) -> anyhow::Result<u64> {
+    let mut watched = Watched::new(rt.alloc(), panel)?;
+    fastest(rt, day, DAYS, |day| feed_day(&mut watched, day))
+}
+
+fn panels(rt: &HostRuntime, day: &[u8]) -> anyhow::Result<()> {
+    let rate = feeding(rt, PlainPanel::new(), day)?;
     println!(rt; "plain panel: {rate} bytes per second")?;
     let mut changes = STRIP;
-    let rate = feeding(rt, StripPanel::over(&mut changes), day, places)?;
+    let rate = feeding(rt, StripPanel::over(&mut changes), day)?;
     println!(rt; "strip panel: {rate} bytes per second")?;
     Ok(())
 }
 
 fn reading(rt: &HostRuntime, day: &[u8]) -> anyhow::Result<()> {
-    let mut best = u64::MAX;
     let mut items = 0;
-    for _ in 0..DAYS {
-        let start = Instant::now(rt)?;
+    let rate = fastest(rt, day, DAYS, |day| {
         items = count(day);
-        best = best.min(nanos_since(rt, start)?);
-    }
-    let rate = per_second(day.len(), best);
+        Ok(())
+    })?;
     println!(rt; "item reader: {rate} bytes per second, {items} items")?;
     Ok(())
 }
 
 // A display runs for years: its last days take no longer than its first.
-fn years(rt: &HostRuntime, day: &[u8], places: &mut [Fault]) -> anyhow::Result<()> {
-    let mut display = Display::switch_on(settings()?, PlainPanel::new());
-    let first = fastest(rt, &mut display, day, places, TENTH)?;
+fn years(rt: &HostRuntime, day: &[u8]) -> anyhow::Result<()> {
+    let mut watched = Watched::new(rt.alloc(), PlainPanel::new())?;
+    let mut tenth = || fastest(rt, day, TENTH, |day| feed_day(&mut watched, day));
+    let first = tenth()?;
     for _ in 0..8 {
-        let _ = fastest(rt, &mut display, day, places, TENTH)?;
+        let _ = tenth()?;
     }
-    let last = fastest(rt, &mut display, day, places, TENTH)?;
+    let last = tenth()?;
     println!(rt; "first tenth of a hundred days: {first} bytes per second")?;
     println!(rt; "last tenth of a hundred days: {last} bytes per second")?;
     Ok(())
 }
 
 fn about(rt: &HostRuntime, day: &[u8], sales: u32) -> anyhow::Result<()> {
-    let mut sum = Sum::new();
+    let mut sum = Sum::default();
     sum.bytes(day);
     let size = day.len();
-    let code = sum.code;
-    println!(rt; "day: {sales} sales, {size} bytes, checksum {code:016x}")?;
+    println!(rt; "day: {sales} sales, {size} bytes, checksum {sum}")?;
     Ok(())
 }
 
 pub fn all(rt: &HostRuntime, day: &Day, sales: u32) -> anyhow::Result<()> {
-    let mut places = vec![in rt.alloc(); UNUSED; MOST_FAULTS]?;
     let bytes = day.bytes.as_slice();
     about(rt, bytes, sales)?;
-    panels(rt, bytes, places.as_mut_slice())?;
+    panels(rt, bytes)?;
     reading(rt, bytes)?;
     let size = size_of::<Display<PlainPanel>>();
     println!(rt; "display with a plain panel: {size} bytes")?;
-    years(rt, bytes, places.as_mut_slice())
+    years(rt, bytes)
 }

@@ -1,60 +1,45 @@
 // How a till embeds the display: a sale over a strip panel, painted on a screen of forty cells.
 #![tactic(auto)]
 
-use anyhow::{Context, anyhow};
+use anyhow::Context;
 use display::display::Display;
 use display::words::{Answer, Question};
 use list::BoundedList;
-use panel::Panel;
+use panel::draw::cells;
 use strip::{Change, StripPanel};
-use terms::fault::{DisplayFault, Fault};
+use terms::fault::UNUSED;
 use terms::settings::Settings;
 
 // What lent places hold before they are used.
-const NO_FAULT: Fault = Fault::Said {
-    fault: DisplayFault::NoMacro,
-};
-
 const NO_CHANGE: Change = Change { place: 0, cell: 32 };
-
-fn paint_all(screen: &mut [u64; 40], panel: &StripPanel<'_>) {
-    for place in 0..40 {
-        if let Ok(cell) = panel.look(place) {
-            screen[place] = cell;
-        }
-    }
-}
 
 // Paints the changes that wait, oldest first, or all places if the panel could not keep every change.
 fn paint(screen: &mut [u64; 40], panel: &StripPanel<'_>) {
     if panel.paint_all() {
-        return paint_all(screen, panel);
+        *screen = cells(panel);
+        return;
     }
-    for n in 0..panel.waiting() {
-        if let Some(change) = panel.change(n)
-            && change.place < 40
-        {
-            screen[change.place] = change.cell;
+    for change in panel.changes() {
+        if let Some(cell) = screen.get_mut(change.place) {
+            *cell = change.cell;
         }
     }
 }
 
 // Two rows of text, by the codes of the cells.
 fn show(rt: &HostRuntime, screen: &[u64; 40]) -> anyhow::Result<()> {
-    for place in 0..40 {
-        print!(rt; "{}", (screen[place] & 0xff) as u8 as char)?;
-        if place % 20 == 19 {
-            println!(rt; "|")?;
+    for row in screen.chunks(20) {
+        for cell in row {
+            print!(rt; "{}", (cell & 0xff) as u8 as char)?;
         }
+        println!(rt; "|")?;
     }
     Ok(())
 }
 
 fn run(rt: &HostRuntime) -> anyhow::Result<()> {
-    let Ok(settings) = Settings::check(0, 0, 4) else {
-        return Err(anyhow!("no such settings"));
-    };
-    let mut fault_places = [NO_FAULT; 64]; // a feed wants two for each byte of its piece
+    let settings = Settings::check(0, 0, 4).ok().context("no such settings")?;
+    let mut fault_places = [UNUSED; 64]; // a feed wants two for each byte of its piece
     let mut faults = BoundedList::over(&mut fault_places);
     let mut change_places = [NO_CHANGE; 16];
     let panel = StripPanel::over(&mut change_places);

@@ -13,12 +13,11 @@ impl Dice {
 
     // The upper bits, since the lower ones of such a generator repeat soon.
     fn roll(&mut self) -> u32 {
-        let state = self.state;
-        let next = state
+        self.state = self
+            .state
             .wrapping_mul(6364136223846793005)
             .wrapping_add(1442695040888963407);
-        self.state = next;
-        ((next >> 33) & 0xffff_ffff) as u32
+        (self.state >> 33) as u32
     }
 
     pub fn byte(&mut self) -> u8 {
@@ -37,14 +36,13 @@ impl Dice {
         requires { low ≤ high }
         ensures { (low ≤ result) × (result ≤ high) }
     {
-        let more = self.below((high - low) as usize + 1);
+        let more = self.below(usize::from(high - low) + 1);
         low + more as u8
     }
 
     pub fn one_of(&mut self, choices: &[u8]) -> u8
         requires { 0 < length choices.now }
     {
-        let at = self.below(choices.len());
-        choices[at]
+        choices[self.below(choices.len())]
     }
 }

@@ -7,29 +7,19 @@
 use crate::dice::Dice;
 use crate::tally::Tally;
 use crate::till::Turn;
-use crate::watched::{Watched, is_alike};
+use crate::watched::Watched;
 use display::display::Display;
 use display::words::{Answer, Question};
-use panel::{Panel, PlainPanel};
+use panel::PlainPanel;
+use std::alloc::{AllocError, Global};
 use strip::StripPanel;
 use terms::settings::Settings;
 
-// A panel that may have to be painted as a whole.
-pub trait Flagged {
-    fn is_flagged(&self) -> bool;
-}
-
-impl<'a> Flagged for StripPanel<'a> {
-    fn is_flagged(&self) -> bool {
-        self.paint_all()
-    }
-}
-
 #[derive(Drop)]
-pub struct Life<P, Q> {
+pub struct Life<'a> {
     settings: Settings,
-    first: Watched<P>,
-    second: Watched<Q>,
+    first: Watched<PlainPanel>,
+    second: Watched<StripPanel<'a>>,
     young: Watched<PlainPanel>,
     // how the second display's pieces are cut, and when a panel is painted
     knife: Dice,
@@ -40,80 +30,80 @@ fn new_display(settings: Settings) -> Display<PlainPanel> {
     Display::switch_on(settings, PlainPanel::new())
 }
 
-impl<P: Panel + Drop, Q: Panel + Flagged + Drop> Life<P, Q> {
+impl<'a> Life<'a> {
     pub fn new(
-        rt: &HostRuntime,
+        heap: Global,
         settings: Settings,
         seed: u64,
-        p: P,
-        q: Q,
-    ) -> anyhow::Result<Life<P, Q>> {
-        let heap = rt.alloc();
+        strip: StripPanel<'a>,
+    ) -> Result<Life<'a>, AllocError> {
         Ok(Life {
             settings,
-            first: Watched::new(heap, Display::switch_on(settings, p))?,
-            second: Watched::new(heap, Display::switch_on(settings, q))?,
+            first: Watched::new(heap, new_display(settings))?,
+            second: Watched::new(heap, Display::switch_on(settings, strip))?,
             young: Watched::new(heap, new_display(settings))?,
             knife: Dice::new(seed),
-            tally: Tally::new(),
+            tally: Tally::default(),
         })
     }
 
     // A piece, and then ticks.
-    pub fn turn(&mut self, rt: &HostRuntime, piece: &[u8], turn: Turn) -> anyhow::Result<()> {
-        self.feed(piece);
+    pub fn turn(&mut self, rt: &HostRuntime, turn: Turn<'_>) -> anyhow::Result<()> {
+        self.feed(turn.piece)?;
         if turn.recalled {
             self.renew();
         }
         self.compare(rt)?;
         if turn.ticks > 0 {
-            self.tick(turn.ticks);
+            self.tick(turn.ticks)?;
             self.compare(rt)?;
         }
         Ok(())
     }
 
-    fn feed(&mut self, piece: &[u8]) {
+    fn feed(&mut self, piece: &[u8]) -> anyhow::Result<()> {
         self.count_piece(piece.len());
-        self.first.feed(piece);
-        self.young.feed(piece);
-        self.feed_cut(piece);
+        self.first.feed(piece)?;
+        self.young.feed(piece)?;
+        self.feed_cut(piece)?;
         if self.knife.below(5) == 0 {
             self.first.display.painted();
-            self.tally.first_paintings = self.tally.first_paintings.saturating_add(1);
+            self.tally.first_paintings += 1;
         }
+        Ok(())
     }
 
     fn count_piece(&mut self, size: usize) {
-        self.tally.pieces = self.tally.pieces.saturating_add(1);
-        self.tally.bytes = self.tally.bytes.saturating_add(size as u64);
+        self.tally.pieces += 1;
+        self.tally.bytes += size as u64;
         if size > 0 && self.is_playing() {
-            self.tally.endings = self.tally.endings.saturating_add(1);
+            self.tally.endings += 1;
         }
     }
 
     fn is_playing(&self) -> bool {
-        match self.first.display.ask(Question::Modes) {
-            Ok(Answer::Modes { modes }) => modes.playing,
-            _ => false,
-        }
+        matches!(
+            self.first.display.ask(Question::Modes),
+            Ok(Answer::Modes { modes }) if modes.playing
+        )
     }
 
     // In parts of a drawn size, from single bytes on.
-    fn feed_cut(&mut self, piece: &[u8]) {
-        let size = self.knife.between(1, 32) as usize;
+    fn feed_cut(&mut self, piece: &[u8]) -> anyhow::Result<()> {
+        let size = usize::from(self.knife.between(1, 32));
         for part in piece.chunks(size) {
-            self.second.feed(part);
+            self.second.feed(part)?;
             if self.knife.below(4) == 0 {
                 self.paint();
             }
         }
+        Ok(())
     }
 
     fn paint(&mut self) {
-        self.tally.second_paintings = self.tally.second_paintings.saturating_add(1);
-        if self.second.display.panel().is_flagged() {
-            self.tally.whole_paintings = self.tally.whole_paintings.saturating_add(1);
+        self.tally.second_paintings += 1;
+        if self.second.display.panel().paint_all() {
+            self.tally.whole_paintings += 1;
         }
         self.second.display.painted();
     }
@@ -121,23 +111,24 @@ impl<P: Panel + Drop, Q: Panel + Flagged + Drop> Life<P, Q> {
     // After a recall nothing of the past can be seen: from here on a new display lives along.
     fn renew(&mut self) {
         self.young.display = new_display(self.settings);
-        self.tally.recalls = self.tally.recalls.saturating_add(1);
+        self.tally.recalls += 1;
     }
 
-    fn tick(&mut self, ticks: usize) {
-        self.tally.ticks = self.tally.ticks.saturating_add(ticks as u64);
+    fn tick(&mut self, ticks: usize) -> Result<(), AllocError> {
+        self.tally.ticks += ticks as u64;
         for _ in 0..ticks {
-            self.first.tick();
-            self.second.tick();
-            self.young.tick();
+            self.first.tick()?;
+            self.second.tick()?;
+            self.young.tick()?;
         }
+        Ok(())
     }
 
     fn compare(&mut self, rt: &HostRuntime) -> anyhow::Result<()> {
-        if !is_alike(&self.first, &self.second) {
+        if !self.first.is_like(&self.second) {
             self.differ(rt, "second")?;
         }
-        if !is_alike(&self.first, &self.young) {
+        if !self.first.is_like(&self.young) {
             self.differ(rt, "new")?;
         }
         self.count();
@@ -149,10 +140,10 @@ impl<P: Panel + Drop, Q: Panel + Flagged + Drop> Life<P, Q> {
 
     // The first ten differences are told, and all are counted.
     fn differ(&mut self, rt: &HostRuntime, other: &str) -> anyhow::Result<()> {
-        self.tally.differences = self.tally.differences.saturating_add(1);
-        if self.tally.differences <= 10 {
-            let bytes = self.tally.bytes;
-            let ticks = self.tally.ticks;
+        self.tally.differences += 1;
+        if self.tally.differences.0 <= 10 {
+            let bytes = self.tally.bytes.0;
+            let ticks = self.tally.ticks.0;
             println!(rt; "after {bytes} bytes and {ticks} ticks the {other} display differs")?;
         }
         Ok(())

@@ -1,60 +1,46 @@
 // What a till is about to send.
-const SIZE: usize = 256;
+use arrayvec::ArrayVec;
 
 #[derive(Drop)]
 pub struct Page {
-    bytes: [u8; SIZE],
-    len: usize,
+    bytes: ArrayVec<u8, 256>,
 }
 
 impl Page {
     pub fn new() -> Page {
         Page {
-            bytes: [0; SIZE],
-            len: 0,
+            bytes: ArrayVec::new(),
         }
     }
 
     pub fn len(&self) -> usize {
-        self.len
+        self.bytes.len()
     }
 
     pub fn clear(&mut self) {
-        self.len = 0;
+        self.bytes.clear();
     }
 
-    // A byte that finds no place is left out.
-    pub fn put(&mut self, byte: u8) {
-        if self.len < SIZE {
-            self.bytes[self.len] = byte;
-            self.len += 1;
-        }
-    }
-
-    pub fn put_all(&mut self, bytes: &[u8]) {
-        for byte in bytes {
-            self.put(*byte);
-        }
+    // What finds no place is left out.
+    pub fn put(&mut self, bytes: &[u8]) {
+        let _ = self.bytes.extend(bytes.iter().copied());
     }
 
     // Takes the last n bytes off.
     pub fn cut(&mut self, n: usize) {
-        self.len = self.len.saturating_sub(n);
+        let left = self.len().saturating_sub(n);
+        self.bytes.truncate(left);
     }
 
     // Changes the nth byte from the end.
     pub fn spoil(&mut self, n: usize, byte: u8) {
-        let at = self.len.saturating_sub(n);
-        if at < SIZE {
-            self.bytes[at] = byte;
+        let at = self.len().saturating_sub(n);
+        if let Some(spoilt) = self.bytes.get_mut(at) {
+            *spoilt = byte;
         }
     }
 
     pub fn part(&self, from: usize, to: usize) -> &[u8] {
-        if from <= to && to <= SIZE {
-            &self.bytes[from..to]
-        } else {
-            &[]
-        }
+        self.bytes.as_slice().get(from..to).unwrap_or(&[])
     }
 }

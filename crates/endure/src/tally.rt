@@ -1,117 +1,89 @@
 // What a life came to, in numbers.
+use crate::sum::Sum;
 use display::display::Display;
 use display::words::{Answer, Question};
 use panel::Panel;
-use state::controller::questions::Modes;
+use panel::draw::cells;
+use std::fmt;
+use std::num::Saturating;
 use terms::fault::Fault;
 
-#[derive(Drop)]
+// How often something came.
+type Count = Saturating<u64>;
+
+#[derive(Default, Drop)]
 pub struct Tally {
-    pub bytes: u64,
-    pub ticks: u64,
-    pub pieces: u64,
-    pub recalls: u64,
+    pub bytes: Count,
+    pub ticks: Count,
+    pub pieces: Count,
+    pub recalls: Count,
     // pieces that came while the macro played, and so ended it
-    pub endings: u64,
-    pub first_paintings: u64,
-    pub second_paintings: u64,
+    pub endings: Count,
+    pub first_paintings: Count,
+    pub second_paintings: Count,
     // those of the second display that found the flag up
-    pub whole_paintings: u64,
-    pub differences: u64,
+    pub whole_paintings: Count,
+    pub differences: Count,
     // faults by their cause; there is none of cause 0
-    pub said: [u64; 10],
-    pub played: [u64; 10],
-    pub checksum: u64,
+    said: [Count; 10],
+    played: [Count; 10],
+    sum: Sum,
 }
 
 impl Tally {
-    pub fn new() -> Tally {
-        Tally {
-            bytes: 0,
-            ticks: 0,
-            pieces: 0,
-            recalls: 0,
-            endings: 0,
-            first_paintings: 0,
-            second_paintings: 0,
-            whole_paintings: 0,
-            differences: 0,
-            said: [0; 10],
-            played: [0; 10],
-            checksum: 0xCBF2_9CE4_8422_2325,
-        }
-    }
-
-    // Each number changes the checksum, and so does their order.
-    fn add(&mut self, number: u64) {
-        self.checksum = (self.checksum ^ number).wrapping_mul(0x0000_0100_0000_01B3);
-    }
-
-    fn add_fault(&mut self, fault: Fault) {
-        let inner = fault.inner();
-        self.add(inner.cause() as u64);
-        self.add(inner.first() as u64);
-        self.add(inner.second() as u64);
-        self.add(inner.operand() as u64);
-    }
-
     pub fn count(&mut self, fault: Fault) {
-        self.add_fault(fault);
-        let cause = fault.inner().cause() as usize;
-        match fault {
-            Fault::Said { fault: _ } => {
-                self.add(0);
-                raise(&mut self.said, cause);
-            }
-            Fault::Played { fault: _ } => {
-                self.add(1);
-                raise(&mut self.played, cause);
-            }
+        let inner = fault.inner();
+        let counts = match fault {
+            Fault::Said { .. } => &mut self.said,
+            Fault::Played { .. } => &mut self.played,
+        };
+        if let Some(count) = counts.get_mut(usize::from(inner.cause())) {
+            *count += 1;
         }
+        self.sum.add(&[
+            inner.cause(),
+            inner.first(),
+            inner.second(),
+            inner.operand(),
+            u8::from(matches!(fault, Fault::Played { .. })),
+        ]);
     }
 
     // What a display shows and says of itself.
     pub fn see<P: Panel>(&mut self, display: &Display<P>) {
-        for place in 0..40 {
-            if let Ok(cell) = display.panel().look(place) {
-                self.add(cell);
+        self.sum.add(&cells(display.panel()));
+        for question in [Question::Cursor, Question::Lamp, Question::Modes] {
+            match display.ask(question) {
+                Ok(Answer::Cursor { cursor }) => self.sum.add(&[cursor.column, cursor.row]),
+                Ok(Answer::Lamp { lit }) => self.sum.add(&[lit]),
+                Ok(Answer::Modes { modes }) => self.sum.add(&modes.numbers()),
+                _ => {}
             }
-        }
-        if let Ok(Answer::Cursor { cursor }) = display.ask(Question::Cursor) {
-            self.add(cursor.column as u64);
-            self.add(cursor.row as u64);
-        }
-        if let Ok(Answer::Lamp { lit }) = display.ask(Question::Lamp) {
-            self.add(lit as u64);
-        }
-        if let Ok(Answer::Modes { modes }) = display.ask(Question::Modes) {
-            self.add_modes(modes);
-        }
-    }
-
-    fn add_modes(&mut self, modes: Modes) {
-        let numbers = [
-            modes.mode.number(),
-            modes.window,
-            modes.cursor as u8,
-            modes.user as u8,
-            modes.recording as u8,
-            modes.playing as u8,
-            modes.selected as u8,
-            modes.blink,
-            modes.table,
-            modes.set,
-            modes.brightness,
-        ];
-        for number in numbers {
-            self.add(number as u64);
         }
     }
 }
 
-// One more of a cause.
-fn raise(counts: &mut [u64; 10], cause: usize) {
-    if cause < counts.len() {
-        counts[cause] = counts[cause].saturating_add(1);
+impl fmt::Display for Tally {
+    fn fmt<W: fmt::Write>(&self, f: &mut fmt::Formatter<W>) -> fmt::Result {
+        for (what, count) in [
+            ("bytes", self.bytes),
+            ("ticks", self.ticks),
+            ("pieces", self.pieces),
+            ("recalls", self.recalls),
+            ("plays ended by a piece", self.endings),
+            ("plain panel painted", self.first_paintings),
+            ("strip panel painted", self.second_paintings),
+            ("strip panel painted as a whole", self.whole_paintings),
+        ] {
+            writeln!(f, "{what} {}", count.0)?;
+        }
+        // A US ^ from the macro is always fault 7, and no macro has US : in it as a command: 8 and 9 stay at 0.
+        for (speaker, counts) in [("host", &self.said), ("macro", &self.played)] {
+            for (cause, count) in counts.iter().enumerate().skip(1) {
+                writeln!(f, "fault {cause} from the {speaker} {}", count.0)?;
+            }
+        }
+        writeln!(f, "checksum {}", self.sum.code)?;
+        write!(f, "differences {}", self.differences.0)
     }
 }

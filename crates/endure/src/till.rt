@@ -15,11 +15,10 @@ pub struct Till {
     left: usize,
 }
 
-// A piece, by its place on the page, and the ticks after it.
+// A piece, and the ticks after it.
 #[derive(Clone, Copy)]
-pub struct Turn {
-    from: usize,
-    to: usize,
+pub struct Turn<'a> {
+    pub piece: &'a [u8],
     pub ticks: usize,
     // whether the piece is the last of a recall
     pub recalled: bool,
@@ -70,7 +69,7 @@ impl Till {
     }
 
     fn say_recall(&mut self) {
-        self.writer.page.put_all(recall_bytes());
+        self.writer.page.put(recall_bytes());
         self.recall = true;
     }
 
@@ -103,7 +102,7 @@ impl Till {
     // As many events as are wanted, or as are left.
     fn spend(&mut self, wanted: usize) -> usize {
         let spent = wanted.min(self.left);
-        self.left = self.left.saturating_sub(spent);
+        self.left -= spent;
         spent
     }
 
@@ -114,7 +113,7 @@ impl Till {
             1 | 2 => self.writer.dice.between(1, 8),
             _ => self.writer.dice.between(1, 96),
         };
-        size as usize
+        usize::from(size)
     }
 
     fn short_pause(&mut self) -> usize {
@@ -125,7 +124,7 @@ impl Till {
     }
 
     // The next piece, of at most 96 bytes, and the ticks after it; none where all events are spent.
-    pub fn turn(&mut self) -> Option<Turn> {
+    pub fn turn(&mut self) -> Option<Turn<'_>> {
         if self.left == 0 {
             return None;
         }
@@ -143,14 +142,9 @@ impl Till {
             self.pause
         };
         Some(Turn {
-            from,
-            to,
             ticks: self.spend(pause),
             recalled: self.recall && to >= end,
+            piece: self.writer.page.part(from, to),
         })
-    }
-
-    pub fn piece(&self, turn: Turn) -> &[u8] {
-        self.writer.page.part(turn.from, turn.to)
     }
 }

@@ -22,17 +22,6 @@ impl Writer {
         }
     }
 
-    fn pair(&mut self, first: u8, second: u8) {
-        self.page.put(first);
-        self.page.put(second);
-    }
-
-    // A command with one operand, or with its first one.
-    fn triple(&mut self, first: u8, second: u8, operand: u8) {
-        self.pair(first, second);
-        self.page.put(operand);
-    }
-
     // A code that may be a user character's.
     fn code(&mut self) -> u8 {
         self.dice.between(0x20, 0x5F)
@@ -41,20 +30,19 @@ impl Writer {
     pub fn text(&mut self) {
         for _ in 0..self.dice.between(1, 24) {
             let code = self.code();
-            self.page.put(code);
+            self.page.put(&[code]);
         }
     }
 
     pub fn noise(&mut self) {
         for _ in 0..self.dice.between(1, 9) {
-            let byte = self.dice.byte();
-            self.page.put(byte);
+            self.page.put(&[self.dice.byte()]);
         }
     }
 
     // Opens a recording, or closes it.
     pub fn record(&mut self) {
-        self.pair(US, b':');
+        self.page.put(&[US, b':']);
     }
 
     // Mostly at a pace that brings the macro round soon.
@@ -63,32 +51,29 @@ impl Writer {
             0 => self.dice.between(1, 255),
             _ => self.dice.between(1, 2),
         };
-        self.triple(US, b'^', n);
         let m = self.dice.one_of(&[0, 0, 1, 2, 255]);
-        self.page.put(m);
+        self.page.put(&[US, b'^', n, m]);
     }
 
     pub fn select(&mut self) {
         let n = self.dice.one_of(&[0x02, 0x03, 0x32, 0x33]);
-        self.triple(ESC, b'=', n);
+        self.page.put(&[ESC, b'=', n]);
     }
 
     pub fn deselect(&mut self) {
         let n = self.dice.one_of(&[0x01, 0x31]);
-        self.triple(ESC, b'=', n);
+        self.page.put(&[ESC, b'=', n]);
     }
 
     // US $, often outside a window.
     fn go_to(&mut self) {
         let x = self.dice.between(1, 20);
-        self.triple(US, b'$', x);
         let y = self.dice.between(1, 2);
-        self.page.put(y);
+        self.page.put(&[US, b'$', x, y]);
     }
 
     fn window(&mut self, number: u8, s: u8) {
-        self.triple(ESC, b'W', number);
-        self.page.put(s);
+        self.page.put(&[ESC, b'W', number, s]);
     }
 
     fn area(&mut self) {
@@ -96,7 +81,7 @@ impl Writer {
         let y1 = self.dice.between(1, 2);
         let x2 = self.dice.between(x1, 20);
         let y2 = self.dice.between(y1, 2);
-        self.page.put_all(&[x1, y1, x2, y2]);
+        self.page.put(&[x1, y1, x2, y2]);
     }
 
     // Defined, cancelled, or turned to.
@@ -117,67 +102,43 @@ impl Writer {
     // The columns of a user character, the pair US : often among them.
     fn columns(&mut self) {
         let length = self.dice.between(0, 5);
-        self.page.put(length);
+        self.page.put(&[length]);
         for _ in 0..length {
             let column = self
                 .dice
                 .one_of(&[0x1F, 0x3A, 0x1F, 0x3A, 0x1B, 0x18, 0x00, 0xFF]);
-            self.page.put(column);
+            self.page.put(&[column]);
         }
     }
 
     fn characters(&mut self) {
         let count = self.dice.between(1, 3);
         let first = self.code();
-        self.triple(ESC, b'&', 0x01);
-        self.page.put(first);
-        self.page.put(first.saturating_add(count - 1));
+        let last = first.saturating_add(count - 1);
+        self.page.put(&[ESC, b'&', 0x01, first, last]);
         for _ in 0..count {
             self.columns();
         }
     }
 
     fn with_us(&mut self) {
-        match self.dice.below(4) {
-            0 => {
-                let n = self.dice.one_of(&[0x00, 0x01, 0x30, 0x31]);
-                self.triple(US, b'C', n);
-            }
-            1 => {
-                let n = self.dice.one_of(&[0x00, 0x01, 0x02, 0x05, 0xFF]);
-                self.triple(US, b'E', n);
-            }
-            2 => {
-                let n = self.dice.between(1, 4);
-                self.triple(US, b'X', n);
-            }
-            _ => {
-                let mark = self.dice.one_of(b".,;");
-                let code = self.code();
-                self.triple(US, mark, code);
-            }
-        }
+        let (second, operand) = match self.dice.below(4) {
+            0 => (b'C', self.dice.one_of(&[0x00, 0x01, 0x30, 0x31])),
+            1 => (b'E', self.dice.one_of(&[0x00, 0x01, 0x02, 0x05, 0xFF])),
+            2 => (b'X', self.dice.between(1, 4)),
+            _ => (self.dice.one_of(b".,;"), self.code()),
+        };
+        self.page.put(&[US, second, operand]);
     }
 
     fn with_esc(&mut self) {
-        match self.dice.below(4) {
-            0 => {
-                let n = self.dice.one_of(&[0x00, 0x01, 0x30, 0x31]);
-                self.triple(ESC, b'%', n);
-            }
-            1 => {
-                let n = self.code();
-                self.triple(ESC, b'?', n);
-            }
-            2 => {
-                let n = self.dice.between(0, 12);
-                self.triple(ESC, b'R', n);
-            }
-            _ => {
-                let n = self.dice.between(0, 8);
-                self.triple(ESC, b't', n);
-            }
-        }
+        let (second, operand) = match self.dice.below(4) {
+            0 => (b'%', self.dice.one_of(&[0x00, 0x01, 0x30, 0x31])),
+            1 => (b'?', self.code()),
+            2 => (b'R', self.dice.between(0, 12)),
+            _ => (b't', self.dice.between(0, 8)),
+        };
+        self.page.put(&[ESC, second, operand]);
     }
 
     // A whole command, each operand in its range.
@@ -187,11 +148,11 @@ impl Writer {
                 let byte = self
                     .dice
                     .one_of(&[0x08, 0x09, 0x0A, 0x0B, 0x0C, 0x0D, 0x18]);
-                self.page.put(byte);
+                self.page.put(&[byte]);
             }
             9..=13 => {
                 let second = self.dice.one_of(&[0x01, 0x02, 0x03, 0x0A, 0x0D, 0x42]);
-                self.pair(US, second);
+                self.page.put(&[US, second]);
             }
             14..=17 => self.go_to(),
             18..=25 => self.some_window(),
@@ -206,7 +167,7 @@ impl Writer {
     // What would leave little of a life if it came often.
     fn rarer(&mut self) {
         match self.dice.below(8) {
-            0 => self.pair(ESC, b'@'),
+            0 => self.page.put(&[ESC, b'@']),
             1 => self.deselect(),
             2 => self.record(),
             _ => self.select(),
@@ -234,10 +195,7 @@ impl Writer {
         let n = self.dice.below(size) + 1;
         match self.dice.below(10) {
             0 => self.page.cut(n),
-            1 => {
-                let byte = self.dice.byte();
-                self.page.spoil(n, byte);
-            }
+            1 => self.page.spoil(n, self.dice.byte()),
             _ => {}
         }
     }
