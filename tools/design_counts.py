@@ -7,7 +7,8 @@ import sys
 # A point, what is counted, and the pattern of one place in the text of a file without its comments.
 PATTERNS = [
     (1, "a kind or a refusal told by a method `number`", r"fn number\((?:self|window)\b"),
-    (1, "a number for a kind in a field or a result", r"(?:pub (?:mark|window): u8\b)|\) -> u8 \{|fn \w+_holds?\w*(?:<[^>]*>)?\(\) -> u8|fn bounds_hold(?:<[^>]*>)?\(\) -> u8"),
+    (1, "a number for a kind in a field", r"pub (?:mark|window): u8\b"),
+    (1, "a theorem's function with a number as its result", r"fn \w+_holds?(?:<[^>]*>)?\(\) -> u8"),
     (1, "an Option or Result rebuilt by a match", r"None => (?:None|0|true|false|WHOLE)\b|Ok\(\(\)\) => Ok\(|Err\((\w+)\) => Err\(\1\)|if let Some\(\w+\) = [^{]*\{\s*if let Ok\("),
     (1, "a test written as a match of true and false", r"=> true,\s*_ => false"),
     (2, "one constant stated again", r"const (?:UNUSED|NO_FAULT): Fault|const (?:PLACES|BLANK|ESC|US): \w+"),

@@ -3,10 +3,7 @@ ghost use Rattle.std.specs.Prelude.{◌<◌};
 
 use crate::dice::Dice;
 use crate::page::Page;
-
-const ESC: u8 = 0x1B;
-
-const US: u8 = 0x1F;
+use reader::words::{ESC, US};
 
 #[derive(Drop)]
 pub struct Writer {

@@ -7,12 +7,8 @@ use panel::{Panel, PlainPanel};
 use std::process::Abort;
 use std::test::Fail;
 use strip::{Change, StripPanel};
-use terms::fault::{DisplayFault, Fault};
+use terms::fault::UNUSED;
 use terms::settings::Settings;
-
-const NO_FAULT: Fault = Fault::Said {
-    fault: DisplayFault::NoMacro,
-};
 
 fn settings() -> Result<Settings, Fail> {
     Settings::check(0, 0, 4).map_err(|_| Fail::new("lawful settings"))
@@ -20,7 +16,7 @@ fn settings() -> Result<Settings, Fail> {
 
 // A text that scrolls, a mark, and a window with a text of its own.
 fn feed<P: Panel>(rt: &impl Abort, display: &mut Display<P>) -> Result<(), Fail> {
-    let mut places = [NO_FAULT; 128];
+    let mut places = [UNUSED; 128];
     let mut faults = BoundedList::over(&mut places);
     let piece = b"\x1f\x02Coffee\n\r3\x1f.25\nTea\x1bW\x01\x01\x05\x01\x08\x01ABCDE\x0d";
     let given = display

@@ -58,7 +58,7 @@ fn cell(display: &Display<PlainPanel>, column: u8, row: u8) -> Result<Answer, u8
         .map_err(u8::from)
 }
 
-const BLANK: Result<Answer, u8> = Ok(Answer::Cell { cell: 32 });
+const EMPTY: Result<Answer, u8> = Ok(Answer::Cell { cell: 32 });
 
 fn macro_byte(display: &Display<PlainPanel>, index: usize) -> Option<u8> {
     match display.ask(Question::Macro { index }) {
@@ -76,7 +76,7 @@ fn feeding_is_refused_in_order(rt: HostRuntime) -> Result<(), Fail> {
     assert_eq!(rt; display.feed(&long, &mut faults).map_err(u8::from), Err(21));
     assert_eq!(rt; display.feed(b"A", &mut faults).map_err(u8::from), Err(22));
     assert_eq!(rt; faults.count(), 0);
-    assert_eq!(rt; cell(&display, 1, 1), BLANK);
+    assert_eq!(rt; cell(&display, 1, 1), EMPTY);
     assert_eq!(rt; display.feed(b"", &mut faults), Ok(0));
     Ok(())
 }
@@ -87,7 +87,7 @@ fn off_the_glass(rt: HostRuntime) -> Result<(), Fail> {
     assert_eq!(rt; cell(&display, 21, 1), Err(31));
     assert_eq!(rt; cell(&display, 1, 3), Err(31));
     assert_eq!(rt; cell(&display, 0, 1), Err(31));
-    assert_eq!(rt; cell(&display, 20, 2), BLANK);
+    assert_eq!(rt; cell(&display, 20, 2), EMPTY);
     let mut panel = display.switch_off();
     assert_eq!(rt; panel.put(40, 65).map_err(u8::from), Err(41));
     assert_eq!(rt; panel.look(40).map_err(u8::from), Err(41));
@@ -112,7 +112,7 @@ fn a_faulty_operand_is_not_read_again(rt: HostRuntime) -> Result<(), Fail> {
         first_fault(&mut display, &[0x1F, 0x58, 0x41]),
         Some((2, 1))
     );
-    assert_eq!(rt; cell(&display, 1, 1), BLANK);
+    assert_eq!(rt; cell(&display, 1, 1), EMPTY);
     Ok(())
 }
 
