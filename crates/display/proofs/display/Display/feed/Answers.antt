@@ -24,4 +24,3 @@ loop-byte-preserved g c = (
   sofar_more _ _ _ _ _ _ _ _ _ c.loop-byte-test.true refl c.loop-byte.invariant.0 c.take.ensures.state c.take.ensures.grown,
   reached_trans c.loop-byte.invariant.1 c.take.ensures.reached,
 )
-
