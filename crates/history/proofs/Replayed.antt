@@ -1,7 +1,7 @@
 -- One happening more in a life.
 use Rattle.panel.specs.Laws.{Make}
 use Rattle.std.proofs.Common.{OnOk, is_ok, cond, Ok, Err, ◌≡◌, ℕ, ◌+◌, ◌<◌, ◌≤◌, ltb, List, [], ◌∷◌, ◌++◌, length, get_or, take, Some, None, Option, Result, sym, ap, ◌∙◌, subst, subst₂, append_assoc, arith}
-use Rattle.std.proofs.lemmas.List.{append-nil, map_more}
+use Rattle.std.proofs.lemmas.List.{append-nil, flat_map_more, take_more}
 use Rattle.std.proofs.lemmas.Option.{MatchOption-at_none}
 use Rattle.std.proofs.lemmas.Bool.{le-ltb, cond-false}
 use Rattle.list.specs.declared.list.BoundedList.{BoundedList}
@@ -11,7 +11,7 @@ use Rattle.state.specs.Model.{Event, byte, tick, fault_of}
 use Rattle.display.specs.declared.words.FeedRefusal.{FeedRefusal}
 use Rattle.display.specs.declared.words.FeedRefusal.TheVariants.{FewPlaces}
 use Rattle.display.specs.declared.display.Display.{Display}
-use Rattle.display.specs.Calls.{feed_cause, free, Accepts, Refuses, Feeds, Ticks}
+use Rattle.display.specs.Calls.{feed_cause, free, Accepts, Refuses, Feeds, Ticks, Paints}
 use Rattle.history.specs.declared.replay.words.Happening.{Happening}
 use Rattle.history.specs.Lives.{accepted, Calls, none, fed, ticked, painted, asked}
 use Rattle.history.specs.Replays.{event_of, events_of, Happens}
@@ -19,6 +19,9 @@ use Rattle.history.specs.Replays.{event_of, events_of, Happens}
 -- a byte with two free places is never refused
 accepts : (b : ℕ) (l : BoundedList Fault) → 2 ≤ free l → feed_cause (b ∷ []) l ≡ None
 accepts b l room = cond-false (ltb (free l) 2) (Some FewPlaces) None (le-ltb (free l) 2 room)
+
+events_more : (hs : List Happening) (i : ℕ) (o : Happening) → i < length hs → events_of (take i hs) ++ event_of (get_or hs i o) ≡ events_of (take (i + 1) hs)
+events_more hs i o lt = flat_map_more event_of [] (take i hs) (get_or hs i o) ∙ ap events_of (sym (take_more hs i o lt))
 
 module _ {P : Type 0} (make : Make P) where
   calls-append : (d d₁ d₂ : Display P) (es es' : List Event) (fs fs' : List Fault) → Calls make d es fs d₁ → Calls make d₁ es' fs' d₂ →
@@ -35,12 +38,15 @@ module _ {P : Type 0} (make : Make P) where
   calls-append d d₁ d₂ es es' fs fs' before (asked q r later h) = asked q r (calls-append d d₁ d₂ es es' fs fs' before later) h
 
   pub happens_tick : (d d' : Display P) (r : Option Fault) (hs all : List Fault) → Ticks make d r d' → all ≡ hs ++ fault_of r →
-      Happens make tick d hs d' all
+      Happens make (tick ∷ []) d hs d' all
   happens_tick d d' r hs all h j = record { given = fault_of r; calls = ticked r none h; joined = j }
+
+  pub happens_painted : (d d' : Display P) (hs : List Fault) → Paints make d d' → Happens make [] d hs d' hs
+  happens_painted d d' hs h = record { given = []; calls = painted none h; joined = sym (append-nil hs) }
 
   -- a byte, fed with an empty list over two places, and its entries then collected
   pub happens_byte : (b : ℕ) (d d' : Display P) (l l' : BoundedList Fault) (r : Result ℕ FeedRefusal) (hs all : List Fault) →
-      entries l ≡ [] → capacity l ≡ 2 → Feeds make d (b ∷ []) l r d' l' → all ≡ hs ++ entries l' → Happens make (byte b) d hs d' all
+      entries l ≡ [] → capacity l ≡ 2 → Feeds make d (b ∷ []) l r d' l' → all ≡ hs ++ entries l' → Happens make (byte b ∷ []) d hs d' all
   happens_byte b d d' l l' r hs all empty two h joined =
       let piece = b ∷ [] in
       let room : 2 ≤ free l = omega (arith, ap length empty, two) in
@@ -54,7 +60,7 @@ module _ {P : Type 0} (make : Make P) where
 
   -- unless there was no memory to collect them
   pub gives_byte : {E : Type 0} (told : Result (Unit {0}) E) (b : ℕ) (d d' : Display P) (l l' : BoundedList Fault) (r : Result ℕ FeedRefusal) (hs all : List Fault) →
-      entries l ≡ [] → capacity l ≡ 2 → Feeds make d (b ∷ []) l r d' l' → all ≡ cond (is_ok told) (hs ++ entries l') hs → OnOk told (Happens make (byte b) d hs d' all)
+      entries l ≡ [] → capacity l ≡ 2 → Feeds make d (b ∷ []) l r d' l' → all ≡ cond (is_ok told) (hs ++ entries l') hs → OnOk told (Happens make (byte b ∷ []) d hs d' all)
   gives_byte (Ok u) b d d' l l' r hs all empty two h joined = happens_byte b d d' l l' r hs all empty two h joined
   gives_byte (Err e) b d d' l l' r hs all empty two h joined = tt
 
@@ -64,6 +70,6 @@ module _ {P : Type 0} (make : Make P) where
       Calls make first (events_of (take (i + 1) hs)) all d'
   script_more first d d' hs i o x fs all lt is before h =
       let es = events_of (take i hs) in
-      let split : es ++ event_of x ∷ [] ≡ events_of (take (i + 1) hs) = ap (λ y. es ++ event_of y ∷ []) is ∙ sym (map_more event_of hs i o lt) in
+      let split : es ++ event_of x ≡ events_of (take (i + 1) hs) = ap (λ y. es ++ event_of y) is ∙ events_more hs i o lt in
       subst₂ (λ y z. Calls make first y z d') split (sym h.joined)
-      (calls-append first d d' es (event_of x ∷ []) fs h.given before h.calls)
+      (calls-append first d d' es (event_of x) fs h.given before h.calls)

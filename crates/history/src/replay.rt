@@ -1,4 +1,4 @@
-// A script of bytes and ticks, given to a new display.
+// A script of bytes, ticks and paintings, given to a new display.
 ghost use Rattle.std.specs.Prelude.{◌≡◌, ◌++◌, IfOk, OnOk};
 ghost use Rattle.state.specs.Model.{fault_of};
 ghost use Rattle.terms.specs.Presets.{preset};
@@ -50,10 +50,14 @@ fn happen<P: Panel>(
     match happening {
         Happening::Byte { byte } => give_byte(display, byte, faults),
         Happening::Tick => collect(faults, display.tick()),
+        Happening::Painted => {
+            display.painted();
+            Ok(())
+        }
     }
 }
 
-// Switches a new display on and gives it a script byte by byte and tick by tick; the faults are collected in order.
+// Switches a new display on and gives it a script, each byte as a piece of its own; the faults are collected in order.
 pub fn replay<P: Panel + Drop>(
     heap: Global,
     settings: Settings,

@@ -2,11 +2,12 @@
 use display::display::Display;
 use terms::fault::Fault;
 
-// What a display accepts: a byte, or a tick.
+// What a display is given: a byte, a tick, or the word that it was painted, which is no event of the rules.
 #[derive(Clone, Copy)]
 pub enum Happening {
     Byte { byte: u8 },
     Tick,
+    Painted,
 }
 
 // The display at the script's end, and its faults in order.

@@ -1,7 +1,7 @@
 use Rattle.std.proofs.Common.{vec_items, sym, subst}
 use Rattle.std.proofs.lemmas.Result.{IfOk-weaker}
 use Rattle.history.specs.Replays.{event_of, Happens}
-use Rattle.history.proofs.Replayed.{happens_tick}
+use Rattle.history.proofs.Replayed.{happens_tick, happens_painted}
 use Rattle.history.proofs.replay.happen.Goals as goal
 
 pub returns-in-Tick : goal.returns-in-Tick
@@ -15,3 +15,10 @@ returns-in-Tick g c =
     (λ _ j. subst (λ h. Happens p.make (event_of h) d fs d' fs') (sym c.in-Tick.is)
     (happens_tick p.make d d' c.tick.result fs fs' c.tick.ensures j))
     c.collect.ensures
+
+pub returns-in-Painted : goal.returns-in-Painted
+returns-in-Painted g c =
+    let p = g.P.Panel in
+    let fs = vec_items c.args.faults.now in
+    subst (λ h. Happens p.make (event_of h) c.args.display.now fs c.painted.new.self fs) (sym c.in-Painted.is)
+    (happens_painted p.make c.args.display.now c.painted.new.self fs c.painted.ensures)
