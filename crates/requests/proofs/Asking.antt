@@ -4,7 +4,7 @@ use Rattle.std.proofs.lemmas.Slice.Eq.{HasBytesAt, bytes_eq-Decides, text_from_r
 use Rattle.std.proofs.lemmas.Bool.{cond-true, cond-false, le-leb, cases_Bool}
 use Rattle.std.specs.Str.{bytes_eq}
 use Rattle.requests.specs.declared.requests.Keyword.{Keyword}
-use Rattle.requests.specs.declared.requests.Keyword.TheVariants.{On, Room, Feed, Text, Tick, Painted, Cell, Cursor, Window, User, Macro, Lamp, Modes, Glass, Show, Items, Replay, Off}
+use Rattle.requests.specs.declared.requests.Keyword.TheVariants.{On, Room, Feed, Text, Tick, Painted, Waiting, Cell, Cursor, Window, User, Macro, Lamp, Modes, Glass, Show, Items, Replay, Off}
 use Rattle.requests.specs.Asked.{bounded, operand_of}
 use Rattle.script.specs.Figures.{number_of}
 use Rattle.requests.specs.Keywords.{name_of, found_in, keywords, keyword_of, KeywordsStand}
@@ -24,6 +24,7 @@ keyword_named Feed = refl
 keyword_named Text = refl
 keyword_named Tick = refl
 keyword_named Painted = refl
+keyword_named Waiting = refl
 keyword_named Cell = refl
 keyword_named Cursor = refl
 keyword_named Window = refl

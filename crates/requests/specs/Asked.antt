@@ -4,6 +4,8 @@ use Rattle.std.specs.Borrow.{Bor}
 use Rattle.std.specs.Str.{bytes_eq}
 use Rattle.requests.specs.declared.requests.Keyword.{Keyword}
 use Rattle.requests.specs.declared.requests.Keyword.TheVariants as keyword
+use Rattle.requests.specs.declared.requests.Make.{Make}
+use Rattle.requests.specs.declared.requests.Make.TheVariants as make
 use Rattle.requests.specs.declared.requests.Mistake.{Mistake}
 use Rattle.requests.specs.declared.requests.Mistake.TheVariants.{Unknown, FewWords, ManyWords, NoNumber, LargeNumber, NoMake}
 use Rattle.requests.specs.declared.requests.Request.{Request}
@@ -34,23 +36,27 @@ abbrev pub number_then : {Y : Type 0} → ℕ → List (List ℕ) → (ℕ → L
 number_then most [] f = Err FewWords
 number_then most (w ∷ ws) f = then (operand_of most w) (λ n. f n ws)
 
--- the next word names the make of panel
-abbrev pub plain_then : List (List ℕ) → (List (List ℕ) → Result Request Mistake) → Result Request Mistake
-plain_then [] f = Err FewWords
-plain_then (w ∷ ws) f = cond (bytes_eq w (codes "plain")) (f ws) (Err NoMake)
-
 -- what was read of the next word: it, as a number, and the words after it; or why it is none
 abbrev pub Taken : ℕ → List (List ℕ) → Result (ℕ × Bor (List (Bor (List ℕ)))) Mistake → Type 0
 Taken most ws (Ok p) = (w : List ℕ) × (ws ≡ w ∷ texts p.1.now) × (operand_of most w ≡ Ok p.0)
 Taken most [] (Err m) = m ≡ FewWords
 Taken most (w ∷ ws) (Err m) = operand_of most w ≡ Err m
 
+-- how many places a strip panel has
+abbrev pub strip_asked : List (List ℕ) → Result Make Mistake
+strip_asked ws = number_then 64 ws (λ n ws. alone_of (make.Strip n) ws)
+
+-- the make of a panel
+abbrev pub make_asked : List (List ℕ) → Result Make Mistake
+make_asked [] = Err FewWords
+make_asked (w ∷ ws) = cond (bytes_eq w (codes "plain")) (alone_of make.Plain ws) (cond (bytes_eq w (codes "strip")) (strip_asked ws) (Err NoMake))
+
 abbrev pub cell_asked : List (List ℕ) → Result Request Mistake
 cell_asked ws = number_then 255 ws (λ x ws. number_then 255 ws (λ y ws. alone_of (request.Cell x y) ws))
 
 abbrev pub on_asked : List (List ℕ) → Result Request Mistake
 on_asked ws =
-    number_then 255 ws (λ s ws. number_then 255 ws (λ t ws. number_then 255 ws (λ b ws. plain_then ws (λ ws. alone_of (request.On s t b) ws))))
+    number_then 255 ws (λ s ws. number_then 255 ws (λ t ws. number_then 255 ws (λ b ws. then (make_asked ws) (λ m. Ok (request.On s t b m)))))
 
 -- the request of a keyword with the words after it
 abbrev pub asked : Keyword → List (List ℕ) → Result Request Mistake
@@ -60,6 +66,7 @@ asked keyword.Feed ws = Ok request.Feed
 asked keyword.Text ws = Ok request.Text
 asked keyword.Tick ws = number_then 1000000 ws (λ n ws. alone_of (request.Tick n) ws)
 asked keyword.Painted ws = alone_of request.Painted ws
+asked keyword.Waiting ws = alone_of request.Waiting ws
 asked keyword.Cell ws = cell_asked ws
 asked keyword.Cursor ws = alone_of request.Cursor ws
 asked keyword.Window ws = number_then 255 ws (λ n ws. alone_of (request.Window n) ws)

@@ -2,9 +2,9 @@
 use Rattle.std.specs.Prelude.{◌≡◌, ℕ, cond, List, [], ◌∷◌, Some, None, codes, Option}
 use Rattle.std.specs.Str.{bytes_eq}
 use Rattle.requests.specs.declared.requests.Keyword.{Keyword}
-use Rattle.requests.specs.declared.requests.Keyword.TheVariants.{On, Room, Feed, Text, Tick, Painted, Cell, Cursor, Window, User, Macro, Lamp, Modes, Glass, Show, Items, Replay, Off}
+use Rattle.requests.specs.declared.requests.Keyword.TheVariants.{On, Room, Feed, Text, Tick, Painted, Waiting, Cell, Cursor, Window, User, Macro, Lamp, Modes, Glass, Show, Items, Replay, Off}
 use Rattle.requests.specs.declared.requests.Mistake.{Mistake}
-use Rattle.requests.specs.declared.requests.Mistake.TheVariants.{Unknown, FewWords, ManyWords, NoNumber, LargeNumber, NoByte, NoMake, DisplayOff, DisplayOn}
+use Rattle.requests.specs.declared.requests.Mistake.TheVariants.{Unknown, FewWords, ManyWords, NoNumber, LargeNumber, NoByte, NoMake, NoList, DisplayOff, DisplayOn}
 
 abbrev pub name_of : Keyword → List ℕ
 name_of On = codes "on"
@@ -13,6 +13,7 @@ name_of Feed = codes "feed"
 name_of Text = codes "text"
 name_of Tick = codes "tick"
 name_of Painted = codes "painted"
+name_of Waiting = codes "waiting"
 name_of Cell = codes "cell"
 name_of Cursor = codes "cursor"
 name_of Window = codes "window"
@@ -32,7 +33,7 @@ found_in w [] = None
 found_in w (k ∷ ks) = cond (bytes_eq w (name_of k)) (Some k) (found_in w ks)
 
 abbrev pub keywords : List Keyword
-keywords = On ∷ Room ∷ Feed ∷ Text ∷ Tick ∷ Painted ∷ Cell ∷ Cursor ∷ Window ∷ User ∷ Macro ∷ Lamp ∷ Modes ∷ Glass ∷ Show ∷ Items ∷ Replay ∷ Off ∷ []
+keywords = On ∷ Room ∷ Feed ∷ Text ∷ Tick ∷ Painted ∷ Waiting ∷ Cell ∷ Cursor ∷ Window ∷ User ∷ Macro ∷ Lamp ∷ Modes ∷ Glass ∷ Show ∷ Items ∷ Replay ∷ Off ∷ []
 
 unfoldable pub keyword_of : List ℕ → Option Keyword
 keyword_of w = found_in w keywords
@@ -50,5 +51,6 @@ why_of NoNumber = codes "a number has one to nine digits"
 why_of LargeNumber = codes "the number is too large"
 why_of NoByte = codes "a byte has two hex digits"
 why_of NoMake = codes "no such make of panel"
+why_of NoList = codes "the panel keeps no list of changes"
 why_of DisplayOff = codes "no display is on"
 why_of DisplayOn = codes "a display is on"

@@ -1,10 +1,10 @@
 // A line's words as a request.
 ghost use Rattle.std.specs.Prelude.{◌≡◌, ◌≤◌, IfOk};
-ghost use Rattle.requests.specs.Asked.{Taken, alone_of, plain_then, cell_asked, on_asked, asked, request_of};
+ghost use Rattle.requests.specs.Asked.{Taken, alone_of, make_asked, cell_asked, on_asked, asked, request_of};
 ghost use Rattle.requests.specs.Keywords.{keyword_of, KeywordsStand};
 ghost use Rattle.script.specs.Splits.{texts};
 
-use crate::requests::{Keyword, Mistake, Request};
+use crate::requests::{Keyword, Make, Mistake, Request};
 use script::digits::number;
 
 // The command that has this name.
@@ -19,6 +19,7 @@ fn keyword(word: &[u8]) -> Option<Keyword>
         b"text" => Some(Keyword::Text),
         b"tick" => Some(Keyword::Tick),
         b"painted" => Some(Keyword::Painted),
+        b"waiting" => Some(Keyword::Waiting),
         b"cell" => Some(Keyword::Cell),
         b"cursor" => Some(Keyword::Cursor),
         b"window" => Some(Keyword::Window),
@@ -74,13 +75,17 @@ fn cell(words: &[&[u8]]) -> Result<Request, Mistake>
     alone(Request::Cell { column, row }, rest)
 }
 
-// The make of the panel, and what follows it.
-fn made_plain(request: Request, words: &[&[u8]]) -> Result<Request, Mistake>
-    ensures { result ≡ plain_then (texts words.now) (λ ws. alone_of request ws) }
+// The make of the panel.
+fn panel_make(words: &[&[u8]]) -> Result<Make, Mistake>
+    ensures { result ≡ make_asked (texts words.now) }
 {
     match words {
         [] => Err(Mistake::FewWords),
-        [b"plain", rest @ ..] => alone(request, rest),
+        [b"plain", rest @ ..] => alone(Make::Plain, rest),
+        [b"strip", rest @ ..] => {
+            let (places, rest) = operand(64, rest)?;
+            alone(Make::Strip { places }, rest)
+        }
         _ => Err(Mistake::NoMake),
     }
 }
@@ -91,14 +96,12 @@ fn on(words: &[&[u8]]) -> Result<Request, Mistake>
     let (set, rest) = byte_operand(words)?;
     let (table, rest) = byte_operand(rest)?;
     let (brightness, rest) = byte_operand(rest)?;
-    made_plain(
-        Request::On {
-            set,
-            table,
-            brightness,
-        },
-        rest,
-    )
+    Ok(Request::On {
+        set,
+        table,
+        brightness,
+        make: panel_make(rest)?,
+    })
 }
 
 // What a keyword asks for with the words after it.
@@ -118,6 +121,7 @@ fn asked(keyword: Keyword, words: &[&[u8]]) -> Result<Request, Mistake>
             alone(Request::Tick { count }, rest)
         }
         Keyword::Painted => alone(Request::Painted, words),
+        Keyword::Waiting => alone(Request::Waiting, words),
         Keyword::Cell => cell(words),
         Keyword::Cursor => alone(Request::Cursor, words),
         Keyword::Window => {

@@ -10,17 +10,36 @@ use std::fmt;
 pub enum Request {
     // a comment, or no words
     Nothing,
-    On { set: u8, table: u8, brightness: u8 },
-    Room { places: u32 },
+    On {
+        set: u8,
+        table: u8,
+        brightness: u8,
+        make: Make,
+    },
+    Room {
+        places: u32,
+    },
     Feed,
     Text,
-    Tick { count: u32 },
+    Tick {
+        count: u32,
+    },
     Painted,
-    Cell { column: u8, row: u8 },
+    Waiting,
+    Cell {
+        column: u8,
+        row: u8,
+    },
     Cursor,
-    Window { number: u8 },
-    User { code: u8 },
-    Macro { index: u32 },
+    Window {
+        number: u8,
+    },
+    User {
+        code: u8,
+    },
+    Macro {
+        index: u32,
+    },
     Lamp,
     Modes,
     Glass,
@@ -28,6 +47,13 @@ pub enum Request {
     Items,
     Replay,
     Off,
+}
+
+// The make of a display's panel; a strip panel has so many places for changes.
+#[derive(Clone, Copy, Debug, PartialEq, Eq)]
+pub enum Make {
+    Plain,
+    Strip { places: u32 },
 }
 
 // Why a line is answered by an error.
@@ -40,6 +66,7 @@ pub enum Mistake {
     LargeNumber,
     NoByte,
     NoMake,
+    NoList,
     DisplayOff,
     DisplayOn,
 }
@@ -56,6 +83,7 @@ impl fmt::Display for Mistake {
             Mistake::LargeNumber => "the number is too large",
             Mistake::NoByte => "a byte has two hex digits",
             Mistake::NoMake => "no such make of panel",
+            Mistake::NoList => "the panel keeps no list of changes",
             Mistake::DisplayOff => "no display is on",
             Mistake::DisplayOn => "a display is on",
         })
@@ -73,6 +101,7 @@ pub enum Keyword {
     Text,
     Tick,
     Painted,
+    Waiting,
     Cell,
     Cursor,
     Window,

@@ -1,5 +1,5 @@
 use Rattle.std.proofs.Common.{arith, rules}
-use Rattle.requests.specs.declared.requests.Keyword.TheVariants.{Room, Feed, Text, Tick, Painted, Cell, Cursor, Window, User, Macro, Lamp, Modes, Glass, Show, Items, Replay}
+use Rattle.requests.specs.declared.requests.Keyword.TheVariants.{Room, Feed, Text, Tick, Painted, Waiting, Cell, Cursor, Window, User, Macro, Lamp, Modes, Glass, Show, Items, Replay}
 use Rattle.requests.proofs.Asking.{read_as}
 use Rattle.requests.proofs.parse.keyword.Goals as goal
 
@@ -17,6 +17,9 @@ returns-in-tick c = read_as c.args.word.now Tick (omega arith) (search rules)
 
 pub returns-in-painted : goal.returns-in-painted
 returns-in-painted c = read_as c.args.word.now Painted (omega arith) (search rules)
+
+pub returns-in-waiting : goal.returns-in-waiting
+returns-in-waiting c = read_as c.args.word.now Waiting (omega arith) (search rules)
 
 pub returns-in-cell : goal.returns-in-cell
 returns-in-cell c = read_as c.args.word.now Cell (omega arith) (search rules)
