@@ -2,6 +2,7 @@
 #![tactic(auto)]
 
 mod answers;
+mod life;
 mod play;
 mod show;
 

@@ -2,19 +2,21 @@
 ghost use Rattle.std.specs.Prelude.{◌<◌, ◌≤◌, length, IfOk, IfSome};
 
 use crate::answers::{Glass, Told, ToldFault};
+use crate::life::{Life, Made, NO_CHANGE};
 use crate::show::Picture;
 use display::display::Display;
 use display::words::Question;
-use history::compare::{same, same_faults};
-use history::replay::{Happening, replay};
+use history::replay::Happening;
 use items::walk::walk;
 use list::BoundedList;
+use painter::Pending;
 use panel::draw::cells;
 use panel::{Panel, PlainPanel};
 use requests::parse::request;
-use requests::requests::{Mistake, Request};
+use requests::requests::{Make, Mistake, Request};
 use script::lines::Lines;
 use script::words::{after_first, hex_bytes, words};
+use strip::StripPanel;
 use terms::fault::{Fault, UNUSED};
 use terms::settings::Settings;
 
@@ -35,15 +37,6 @@ struct Line<'a> {
     number: usize,
     text: &'a [u8],
     words: Vec<&'a [u8]>,
-}
-
-// A display that is on, with all that it was given since.
-#[derive(Drop)]
-struct Life<P> {
-    settings: Settings,
-    display: Display<P>,
-    happened: Vec<Happening>,
-    faults: Vec<Fault>,
 }
 
 impl<'a> Line<'a> {
@@ -93,9 +86,10 @@ impl<'r> Play<'r> {
                         set,
                         table,
                         brightness,
+                        make,
                     },
                 ) => match Settings::check(set, table, brightness) {
-                    Ok(settings) => self.switch_on(lines, settings)?,
+                    Ok(settings) => self.switch_on(lines, settings, make)?,
                     Err(refusal) => self.refused(u8::from(refusal))?,
                 },
                 Ok(request) => if !self.answer(&line, request)? {
@@ -146,28 +140,35 @@ impl<'r> Play<'r> {
         Ok(())
     }
 
-    fn switch_on(&mut self, lines: &mut Lines<'_>, settings: Settings) -> anyhow::Result<()>
-        ensures { length lines.new.rest.now ≤ length lines.old.rest.now }
-    {
-        println!(self.rt; "on")?;
-        let heap = self.rt.alloc();
-        let life = Life {
-            settings,
-            display: Display::switch_on(settings, PlainPanel::new()),
-            happened: Vec::new(heap),
-            faults: Vec::new(heap),
-        };
-        self.play(lines, life)
-    }
-
-    // The lines while a display is on, over a panel of any make.
-    fn play<P: Panel + Drop>(
+    // A strip panel lies in places that are lent until its display is off.
+    fn switch_on(
         &mut self,
         lines: &mut Lines<'_>,
-        mut life: Life<P>,
+        settings: Settings,
+        make: Make,
     ) -> anyhow::Result<()>
         ensures { length lines.new.rest.now ≤ length lines.old.rest.now }
     {
+        match make {
+            Make::Plain => self.play(lines, settings, PlainPanel::new()),
+            Make::Strip { places } => {
+                let mut changes = vec![in self.rt.alloc(); NO_CHANGE; places as usize]?;
+                self.play(lines, settings, StripPanel::over(changes.as_mut_slice()))
+            }
+        }
+    }
+
+    // The lines while a display is on, over a panel of any make.
+    fn play<P: Made>(
+        &mut self,
+        lines: &mut Lines<'_>,
+        settings: Settings,
+        panel: P,
+    ) -> anyhow::Result<()>
+        ensures { length lines.new.rest.now ≤ length lines.old.rest.now }
+    {
+        let mut life = Life::switch_on(self.rt.alloc(), settings, panel);
+        println!(self.rt; "on")?;
         while let Some(line) = self.line(lines)? {
             match line.request() {
                 Ok(Request::Off) => {
@@ -184,7 +185,7 @@ impl<'r> Play<'r> {
         Ok(())
     }
 
-    fn say<P: Panel + Drop>(
+    fn say<P: Made>(
         &mut self,
         life: &mut Life<P>,
         line: &Line<'_>,
@@ -199,6 +200,7 @@ impl<'r> Play<'r> {
                 println!(self.rt; "painted")?;
                 Ok(())
             }
+            Request::Waiting => self.waiting(life, line),
             Request::Replay => self.replay(life),
             Request::Glass => {
                 println!(self.rt; "{}", Glass(cells(life.display.panel())))?;
@@ -265,21 +267,19 @@ impl<'r> Play<'r> {
         Ok(())
     }
 
-    // All that the display was given is given again to a new one, byte by byte and tick by tick.
-    fn replay<P: Panel>(&self, life: &Life<P>) -> anyhow::Result<()> {
-        let again = replay(
-            self.rt.alloc(),
-            life.settings,
-            PlainPanel::new(),
-            life.happened.as_slice(),
-        )?;
-        if same(&life.display, &again.display)
-            && same_faults(life.faults.as_slice(), again.faults.as_slice())
-        {
-            println!(self.rt; "same")?;
-        } else {
-            println!(self.rt; "different")?;
+    fn waiting<P: Made>(&self, life: &Life<P>, line: &Line<'_>) -> anyhow::Result<()> {
+        match P::pending(&life.display) {
+            Some(Pending { count, all }) => {
+                println!(self.rt; "waiting {count} {}", u8::from(all))?;
+                Ok(())
+            }
+            None => self.error(line, Mistake::NoList),
         }
+    }
+
+    fn replay<P: Made>(&self, life: &Life<P>) -> anyhow::Result<()> {
+        let same = P::is_same_again(life, self.rt.alloc())?;
+        println!(self.rt; "{}", if same { "same" } else { "different" })?;
         Ok(())
     }
 }
