@@ -12,8 +12,8 @@ use terms::settings::Settings;
 // What lent places hold before they are used.
 pub const NO_CHANGE: Change = Change { place: 0, cell: 32 };
 
-// A replay over a strip panel has so many places, and is painted before each so many happenings: neither is what a
-// script is likely to do.
+// A replay over a strip panel has so many places, and is painted before each so many happenings: text fits, and a
+// scroll runs the list over.
 const REPLAY_PLACES: usize = 7;
 
 const REPLAY_PAINTS: usize = 5;
