@@ -64,22 +64,22 @@ pub trait Made: Panel + Drop + Sized {
 }
 
 impl Made for PlainPanel {
-    fn pending(_display: &Display<PlainPanel>) -> Option<Pending> {
+    fn pending(_display: &Display<Self>) -> Option<Pending> {
         None
     }
 
-    fn is_same_again(life: &Life<PlainPanel>, heap: Global) -> Result<bool, AllocError> {
+    fn is_same_again(life: &Life<Self>, heap: Global) -> Result<bool, AllocError> {
         let mut changes = [NO_CHANGE; REPLAY_PLACES];
         life.is_same_over(heap, StripPanel::over(&mut changes))
     }
 }
 
-impl<'a> Made for StripPanel<'a> {
-    fn pending(display: &Display<StripPanel<'a>>) -> Option<Pending> {
+impl Made for StripPanel<'_> {
+    fn pending(display: &Display<Self>) -> Option<Pending> {
         Some(waiting(display))
     }
 
-    fn is_same_again(life: &Life<StripPanel<'a>>, heap: Global) -> Result<bool, AllocError> {
+    fn is_same_again(life: &Life<Self>, heap: Global) -> Result<bool, AllocError> {
         life.is_same_over(heap, PlainPanel::new())
     }
 }
