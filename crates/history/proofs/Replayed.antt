@@ -7,14 +7,15 @@ use Rattle.std.proofs.lemmas.Bool.{le-ltb, cond-false}
 use Rattle.list.specs.declared.list.BoundedList.{BoundedList}
 use Rattle.list.specs.Entries.{entries, capacity}
 use Rattle.terms.specs.declared.fault.Fault.{Fault}
-use Rattle.state.specs.Model.{Event, byte, tick, fault_of}
+use Rattle.state.specs.Model.{Event, tick, fault_of}
 use Rattle.display.specs.declared.words.FeedRefusal.{FeedRefusal}
 use Rattle.display.specs.declared.words.FeedRefusal.TheVariants.{FewPlaces}
 use Rattle.display.specs.declared.display.Display.{Display}
 use Rattle.display.specs.Calls.{feed_cause, free, Accepts, Refuses, Feeds, Ticks, Paints}
 use Rattle.history.specs.declared.replay.words.Happening.{Happening}
+use Rattle.history.specs.declared.replay.words.Happening.TheVariants.{Byte, Tick, Painted}
 use Rattle.history.specs.Lives.{accepted, Calls, none, fed, ticked, painted, asked}
-use Rattle.history.specs.Replays.{event_of, events_of, Happens}
+use Rattle.history.specs.Replays.{event_of, events_of, Handled, then, Happens}
 
 -- a byte with two free places is never refused
 accepts : (b : ℕ) (l : BoundedList Fault) → 2 ≤ free l → feed_cause (b ∷ []) l ≡ None
@@ -38,15 +39,15 @@ module _ {P : Type 0} (make : Make P) where
   calls-append d d₁ d₂ es es' fs fs' before (asked q r later h) = asked q r (calls-append d d₁ d₂ es es' fs fs' before later) h
 
   pub happens_tick : (d d' : Display P) (r : Option Fault) (hs all : List Fault) → Ticks make d r d' → all ≡ hs ++ fault_of r →
-      Happens make (tick ∷ []) d hs d' all
-  happens_tick d d' r hs all h j = record { given = fault_of r; calls = ticked r none h; joined = j }
+      Happens make Tick d hs d' all
+  happens_tick d d' r hs all h j = record { given = fault_of r; calls = ticked r none h; joined = j; panel = h.reached }
 
-  pub happens_painted : (d d' : Display P) (hs : List Fault) → Paints make d d' → Happens make [] d hs d' hs
-  happens_painted d d' hs h = record { given = []; calls = painted none h; joined = sym (append-nil hs) }
+  pub happens_painted : (d d' : Display P) (hs : List Fault) → Paints make d d' → Happens make Painted d hs d' hs
+  happens_painted d d' hs h = record { given = []; calls = painted none h; joined = sym (append-nil hs); panel = h.panel }
 
   -- a byte, fed with an empty list over two places, and its entries then collected
   pub happens_byte : (b : ℕ) (d d' : Display P) (l l' : BoundedList Fault) (r : Result ℕ FeedRefusal) (hs all : List Fault) →
-      entries l ≡ [] → capacity l ≡ 2 → Feeds make d (b ∷ []) l r d' l' → all ≡ hs ++ entries l' → Happens make (byte b ∷ []) d hs d' all
+      entries l ≡ [] → capacity l ≡ 2 → Feeds make d (b ∷ []) l r d' l' → all ≡ hs ++ entries l' → Happens make (Byte b) d hs d' all
   happens_byte b d d' l l' r hs all empty two h joined =
       let piece = b ∷ [] in
       let room : 2 ≤ free l = omega (arith, ap length empty, two) in
@@ -56,20 +57,23 @@ module _ {P : Type 0} (make : Make P) where
         calls = subst (λ x. Calls make d (accepted x piece) (entries l') d') took.answers
             (fed (entries l') piece l l' r none h (ap (λ z. z ++ entries l') (sym empty)));
         joined = joined;
+        panel = took.reached;
       }
 
   -- unless there was no memory to collect them
   pub gives_byte : {E : Type 0} (told : Result (Unit {0}) E) (b : ℕ) (d d' : Display P) (l l' : BoundedList Fault) (r : Result ℕ FeedRefusal) (hs all : List Fault) →
-      entries l ≡ [] → capacity l ≡ 2 → Feeds make d (b ∷ []) l r d' l' → all ≡ cond (is_ok told) (hs ++ entries l') hs → OnOk told (Happens make (byte b ∷ []) d hs d' all)
+      entries l ≡ [] → capacity l ≡ 2 → Feeds make d (b ∷ []) l r d' l' → all ≡ cond (is_ok told) (hs ++ entries l') hs → OnOk told (Happens make (Byte b) d hs d' all)
   gives_byte (Ok u) b d d' l l' r hs all empty two h joined = happens_byte b d d' l l' r hs all empty two h joined
   gives_byte (Err e) b d d' l l' r hs all empty two h joined = tt
 
   -- one happening more of a script
-  pub script_more : (first d d' : Display P) (hs : List Happening) (i : ℕ) (o x : Happening) (fs all : List Fault) → i < length hs → x ≡ get_or hs i o →
-      Calls make first (events_of (take i hs)) fs d → Happens make (event_of x) d fs d' all →
-      Calls make first (events_of (take (i + 1) hs)) all d'
-  script_more first d d' hs i o x fs all lt is before h =
+  pub script_more : (p : P) (first d d' : Display P) (hs : List Happening) (i : ℕ) (o x : Happening) (fs all : List Fault) → i < length hs → x ≡ get_or hs i o →
+      Calls make first (events_of (take i hs)) fs d × Handled make p (take i hs) d.panel → Happens make x d fs d' all →
+      Calls make first (events_of (take (i + 1) hs)) all d' × Handled make p (take (i + 1) hs) d'.panel
+  script_more p first d d' hs i o x fs all lt is before h =
       let es = events_of (take i hs) in
-      let split : es ++ event_of x ≡ events_of (take (i + 1) hs) = ap (λ y. es ++ event_of y) is ∙ events_more hs i o lt in
-      subst₂ (λ y z. Calls make first y z d') split (sym h.joined)
-      (calls-append first d d' es (event_of x) fs h.given before h.calls)
+      let split : es ++ event_of x ≡ events_of (take (i + 1) hs) = ap (λ y. es ++ event_of y) is ∙ events_more hs i o lt in (
+        subst₂ (λ y z. Calls make first y z d') split (sym h.joined)
+            (calls-append first d d' es (event_of x) fs h.given before.0 h.calls),
+        subst (λ y. Handled make p y d'.panel) (ap (λ y. take i hs ++ y ∷ []) is ∙ sym (take_more hs i o lt)) (then x before.1 h.panel),
+      )

@@ -1,5 +1,5 @@
--- What a script says: its events, in order.
-use Rattle.panel.specs.Laws.{Make}
+-- What a script says: its events, in order, and what it does to the panel.
+use Rattle.panel.specs.Laws.{Make, Reached}
 use Rattle.std.specs.Prelude.{◌≡◌, List, [], ◌∷◌, ◌++◌}
 use Rattle.std.specs.List.{flat_map}
 use Rattle.terms.specs.declared.fault.Fault.{Fault}
@@ -19,8 +19,20 @@ abbrev pub events_of : List Happening → List Event
 events_of hs = flat_map event_of hs
 
 module _ {P : Type 0} (make : Make P) where
-  -- A display accepts these events, by calls, and the faults that they give are added to those collected before.
-  pub record Happens (es : List Event) (d : Display P) (before : List Fault) (d' : Display P) (all : List Fault) : Type 0 where
+  -- what a happening does to the panel: puts alone, or its own `painted`, once
+  abbrev pub Handles : Happening → P → P → Type 0
+  Handles (Byte b) p q = Reached make.puts p q
+  Handles Tick p q = Reached make.puts p q
+  Handles Painted p q = make.paints p q
+
+  -- what switching on and then a script do to the panel
+  pub data Handled (p : P) : List Happening → P → Type 0 where
+    on : {q : P} → Reached make.puts p q → Handled p [] q
+    then : {q r : P} {hs : List Happening} (h : Happening) → Handled p hs q → Handles h q r → Handled p (hs ++ h ∷ []) r
+
+  -- A display accepts the event, by calls, and the faults that they give are added to those collected before.
+  pub record Happens (h : Happening) (d : Display P) (before : List Fault) (d' : Display P) (all : List Fault) : Type 0 where
     pub given : List Fault
-    pub calls : Calls make d es given d'
+    pub calls : Calls make d (event_of h) given d'
     pub joined : all ≡ before ++ given
+    pub panel : Handles h d.panel d'.panel

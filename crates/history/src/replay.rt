@@ -4,7 +4,7 @@ ghost use Rattle.state.specs.Model.{fault_of};
 ghost use Rattle.terms.specs.Presets.{preset};
 ghost use Rattle.history.specs.Lives.{Life};
 ghost use Rattle.history.specs.History.{History};
-ghost use Rattle.history.specs.Replays.{Happens, event_of, events_of};
+ghost use Rattle.history.specs.Replays.{Handled, Happens, events_of};
 
 use display::display::Display;
 use list::BoundedList;
@@ -32,7 +32,7 @@ fn give_byte<P: Panel>(
     byte: u8,
     faults: &mut Vec<Fault>,
 ) -> Result<(), AllocError>
-    ensures { OnOk result (Happens P.make (event_of (Happening.Byte byte)) display.old faults.old.items display.new faults.new.items) }
+    ensures { OnOk result (Happens P.make (Happening.Byte byte) display.old faults.old.items display.new faults.new.items) }
 {
     let mut places = [UNUSED; 2];
     let mut list = BoundedList::over(&mut places);
@@ -45,7 +45,7 @@ fn happen<P: Panel>(
     happening: Happening,
     faults: &mut Vec<Fault>,
 ) -> Result<(), AllocError>
-    ensures { OnOk result (Happens P.make (event_of happening) display.old faults.old.items display.new faults.new.items) }
+    ensures { OnOk result (Happens P.make happening display.old faults.old.items display.new faults.new.items) }
 {
     match happening {
         Happening::Byte { byte } => give_byte(display, byte, faults),
@@ -65,6 +65,7 @@ pub fn replay<P: Panel + Drop>(
     script: &[Happening],
 ) -> Result<Replayed<P>, AllocError>
     ensures lived { IfOk result (λ x. Life P.make (preset settings) (events_of script.now) x.faults.items x.display) }
+    ensures panel { IfOk result (λ x. Handled P.make panel script.now x.display.panel) }
     ensures history { History P.make P.make }
 {
     let mut display = Display::switch_on(settings, panel);

@@ -1,6 +1,6 @@
 use Rattle.std.proofs.Common.{vec_items, sym, subst}
 use Rattle.std.proofs.lemmas.Result.{IfOk-weaker}
-use Rattle.history.specs.Replays.{event_of, Happens}
+use Rattle.history.specs.Replays.{Happens}
 use Rattle.history.proofs.Replayed.{happens_tick, happens_painted}
 use Rattle.history.proofs.replay.happen.Goals as goal
 
@@ -12,7 +12,7 @@ returns-in-Tick g c =
     let d' = c.tick.new.self in
     let fs' = vec_items c.collect.new.faults in
     IfOk-weaker c.collect.result _ _
-    (λ _ j. subst (λ h. Happens p.make (event_of h) d fs d' fs') (sym c.in-Tick.is)
+    (λ _ j. subst (λ h. Happens p.make h d fs d' fs') (sym c.in-Tick.is)
     (happens_tick p.make d d' c.tick.result fs fs' c.tick.ensures j))
     c.collect.ensures
 
@@ -20,5 +20,5 @@ pub returns-in-Painted : goal.returns-in-Painted
 returns-in-Painted g c =
     let p = g.P.Panel in
     let fs = vec_items c.args.faults.now in
-    subst (λ h. Happens p.make (event_of h) c.args.display.now fs c.painted.new.self fs) (sym c.in-Painted.is)
+    subst (λ h. Happens p.make h c.args.display.now fs c.painted.new.self fs) (sym c.in-Painted.is)
     (happens_painted p.make c.args.display.now c.painted.new.self fs c.painted.ensures)

@@ -1,7 +1,7 @@
 use Rattle.std.proofs.Common.{[], vec_items, sym, refl, subst, rules}
 use Rattle.std.proofs.lemmas.List.{take_all}
 use Rattle.history.specs.Lives.{Calls, none}
-use Rattle.history.specs.Replays.{events_of}
+use Rattle.history.specs.Replays.{events_of, Handled, on}
 use Rattle.history.proofs.Replayed.{script_more}
 use Rattle.history.proofs.Lived.{history}
 use Rattle.history.proofs.replay.replay.Goals as goal
@@ -10,12 +10,12 @@ pub loop-happening-init : goal.loop-happening-init
 loop-happening-init g c =
     let p = g.P.Panel in
     let d = c.switch_on-display.result in
-    subst (λ x. Calls p.make d [] x d) (sym c.new-faults.ensures.items) none
+    (subst (λ x. Calls p.make d [] x d) (sym c.new-faults.ensures.items) none, on c.switch_on-display.ensures.reached)
 
 pub loop-happening-preserved : goal.loop-happening-preserved
 loop-happening-preserved g c =
     let p = g.P.Panel in
-    script_more p.make c.switch_on-display.result c.loop-happening.display c.happen.new.display c.args.script.now c.loop-happening.happening-index _ _
+    script_more p.make c.args.panel c.switch_on-display.result c.loop-happening.display c.happen.new.display c.args.script.now c.loop-happening.happening-index _ _
     (vec_items c.loop-happening.faults) (vec_items c.happen.new.faults) c.loop-happening-test.true refl c.loop-happening.invariant c.in_ok-happen.ensures
 
 pub returns : goal.returns
@@ -28,8 +28,10 @@ returns g c =
         first = d;
         on = c.switch_on-display.ensures;
         calls = subst (λ hs. Calls p.make d (events_of hs) (vec_items c.loop-happening.faults) c.loop-happening.display)
-            (take_all c.loop-happening.happening-index c.args.script.now c.loop-happening-test.false) c.loop-happening.invariant;
+            (take_all c.loop-happening.happening-index c.args.script.now c.loop-happening-test.false) c.loop-happening.invariant.0;
       };
+      panel = subst (λ hs. Handled p.make c.args.panel hs c.loop-happening.display.panel)
+          (take_all c.loop-happening.happening-index c.args.script.now c.loop-happening-test.false) c.loop-happening.invariant.1;
       history = history p.make g.met.P.Panel.laws p.make g.met.P.Panel.laws;
     }
 
@@ -38,5 +40,6 @@ returns-in_err-happen g c =
     let p = g.P.Panel in
     record {
       lived = search rules;
+      panel = search rules;
       history = history p.make g.met.P.Panel.laws p.make g.met.P.Panel.laws;
     }
