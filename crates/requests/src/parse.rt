@@ -104,6 +104,13 @@ fn on(words: &[&[u8]]) -> Result<Request, Mistake>
     })
 }
 
+fn tick(words: &[&[u8]]) -> Result<Request, Mistake>
+    ensures { result ≡ asked Keyword.Tick (texts words.now) }
+{
+    let (count, rest) = operand(1000000, words)?;
+    alone(Request::Tick { count }, rest)
+}
+
 // What a keyword asks for with the words after it.
 fn asked(keyword: Keyword, words: &[&[u8]]) -> Result<Request, Mistake>
     ensures { result ≡ asked keyword (texts words.now) }
@@ -116,10 +123,7 @@ fn asked(keyword: Keyword, words: &[&[u8]]) -> Result<Request, Mistake>
         }
         Keyword::Feed => Ok(Request::Feed),
         Keyword::Text => Ok(Request::Text),
-        Keyword::Tick => {
-            let (count, rest) = operand(1000000, words)?;
-            alone(Request::Tick { count }, rest)
-        }
+        Keyword::Tick => tick(words),
         Keyword::Painted => alone(Request::Painted, words),
         Keyword::Waiting => alone(Request::Waiting, words),
         Keyword::Cell => cell(words),
