@@ -1,9 +1,11 @@
 // The lines of a script: those before a display is on, and those while one is on.
-ghost use Rattle.std.specs.Prelude.{◌<◌, ◌≤◌, length, IfOk, IfSome};
+ghost use Rattle.std.specs.Prelude.{◌<◌, length, IfOk, IfSome};
+ghost use Rattle.pole.specs.Left.{NoMore};
 
 use crate::answers::{Glass, Told, ToldFault};
 use crate::show::Picture;
 use display::display::Display;
+use display::display::calls::LONGEST;
 use display::words::Question;
 use history::compare::{same, same_faults};
 use history::replay::{Happening, replay};
@@ -18,8 +20,8 @@ use script::words::{after_first, hex_bytes, words};
 use terms::fault::{Fault, UNUSED};
 use terms::settings::Settings;
 
-// The fault places of a feed, unless `room` says fewer.
-const MOST_PLACES: usize = 8192;
+// The fault places of a feed, unless `room` says fewer: enough for the longest piece.
+const MOST_PLACES: usize = 2 * LONGEST;
 
 // The places that a feed lends, and how many of them.
 #[derive(Drop)]
@@ -72,7 +74,7 @@ impl<'r> Play<'r> {
     // The next line of the script.
     fn line<'a>(&self, lines: &mut Lines<'a>) -> anyhow::Result<Option<Line<'a>>>
         ensures less { IfOk result (λ o. IfSome o (λ _. length lines.new.rest.now < length lines.old.rest.now)) }
-        ensures no_more { length lines.new.rest.now ≤ length lines.old.rest.now }
+        ensures no_more { NoMore lines.old lines.new }
     {
         let Some(text) = lines.next() else {
             return Ok(None);
@@ -147,7 +149,7 @@ impl<'r> Play<'r> {
     }
 
     fn switch_on(&mut self, lines: &mut Lines<'_>, settings: Settings) -> anyhow::Result<()>
-        ensures { length lines.new.rest.now ≤ length lines.old.rest.now }
+        ensures { NoMore lines.old lines.new }
     {
         println!(self.rt; "on")?;
         let heap = self.rt.alloc();
@@ -166,7 +168,7 @@ impl<'r> Play<'r> {
         lines: &mut Lines<'_>,
         mut life: Life<P>,
     ) -> anyhow::Result<()>
-        ensures { length lines.new.rest.now ≤ length lines.old.rest.now }
+        ensures { NoMore lines.old lines.new }
     {
         while let Some(line) = self.line(lines)? {
             match line.request() {
@@ -233,9 +235,8 @@ impl<'r> Play<'r> {
                     println!(self.rt; "{}", ToldFault(*fault))?;
                 }
                 life.faults.extend_from_slice(faults.as_slice())?;
-                for &byte in piece {
-                    life.happened.push(Happening::Byte { byte })?;
-                }
+                let bytes = piece.iter().map(|byte| Happening::Byte { byte: *byte });
+                life.happened.extend(bytes)?;
                 Ok(())
             }
             Err(refusal) => self.refused(u8::from(refusal)),

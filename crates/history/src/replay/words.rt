@@ -3,7 +3,7 @@ use display::display::Display;
 use terms::fault::Fault;
 
 // What a display accepts: a byte, or a tick.
-#[derive(Clone, Copy)]
+#[derive(Clone, Copy, Debug, PartialEq, Eq)]
 pub enum Happening {
     Byte { byte: u8 },
     Tick,
