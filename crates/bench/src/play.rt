@@ -5,12 +5,13 @@ use crate::day::Day;
 use crate::seen::Seen;
 use crate::watched::Watched;
 use anyhow::Context;
+use display::display::calls::LONGEST;
 use panel::{Panel, PlainPanel};
 use std::alloc::Global;
-use strip::{Change, StripPanel};
+use strip::{Change, NO_CHANGE, StripPanel};
 
 // The places of a strip panel.
-pub const STRIP: [Change; 16] = [Change { place: 0, cell: 32 }; 16];
+pub const STRIP: [Change; 16] = [NO_CHANGE; 16];
 
 // After so many pauses the panel is painted.
 const PAINTED: usize = 3;
@@ -46,7 +47,7 @@ fn play_both(rt: &HostRuntime, day: &Day, size: usize) -> anyhow::Result<()>
 }
 
 pub fn all(rt: &HostRuntime, day: &Day) -> anyhow::Result<()> {
-    for size in [1, 7, 64, 4096] {
+    for size in [1, 7, 64, LONGEST] {
         play_both(rt, day, size)?;
     }
     Ok(())

@@ -4,13 +4,12 @@ use crate::play::STRIP;
 use crate::sum::Sum;
 use crate::watched::Watched;
 use display::display::Display;
+use display::display::calls::LONGEST;
 use items::walk::count;
 use panel::{Panel, PlainPanel};
 use std::mem::size_of;
 use std::time::{Duration, Instant};
 use strip::StripPanel;
-
-const PIECE: usize = 4096;
 
 // The fastest of so many days counts: what else the machine does only slows a day down.
 const DAYS: u32 = 20;
@@ -43,7 +42,7 @@ fn fastest<F: FnMut(&[u8]) -> anyhow::Result<()>>(
 
 // The panel is painted after every piece, as on a till.
 fn feed_day<P: Panel + Drop>(watched: &mut Watched<P>, day: &[u8]) -> anyhow::Result<()> {
-    for piece in day.chunks(PIECE) {
+    for piece in day.chunks(LONGEST) {
         watched.feed(piece)?;
         watched.display.painted();
     }

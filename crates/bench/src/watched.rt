@@ -4,6 +4,7 @@ ghost use Rattle.std.specs.Prelude.{◌<◌};
 use crate::seen::Seen;
 use anyhow::Context;
 use display::display::Display;
+use display::display::calls::LONGEST;
 use list::BoundedList;
 use panel::Panel;
 use std::alloc::Global;
@@ -25,7 +26,7 @@ impl<P: Panel + Drop> Watched<P> {
             .context("settings were refused")?;
         Ok(Watched {
             display: Display::switch_on(settings, panel),
-            places: vec![in heap; UNUSED; 8192]?, // enough for the longest piece
+            places: vec![in heap; UNUSED; 2 * LONGEST]?, // enough for any piece
             seen: Seen::default(),
         })
     }

@@ -6,12 +6,9 @@ use display::display::Display;
 use display::words::{Answer, Question};
 use list::BoundedList;
 use panel::draw::cells;
-use strip::{Change, StripPanel};
+use strip::{NO_CHANGE, StripPanel};
 use terms::fault::UNUSED;
 use terms::settings::Settings;
-
-// What lent places hold before they are used.
-const NO_CHANGE: Change = Change { place: 0, cell: 32 };
 
 // Paints the changes that wait, oldest first, or all places if the panel could not keep every change.
 fn paint(screen: &mut [u64; 40], panel: &StripPanel<'_>) {

@@ -13,7 +13,7 @@ mod writer;
 use anyhow::Context;
 use life::Life;
 use std::env;
-use strip::{Change, StripPanel};
+use strip::{NO_CHANGE, StripPanel};
 use terms::settings::Settings;
 use till::Till;
 
@@ -23,8 +23,6 @@ const EVENTS: usize = 10_000_000;
 const SAID: u64 = 1;
 
 const CUT: u64 = 2;
-
-const NO_CHANGE: Change = Change { place: 0, cell: 0 };
 
 fn events(rt: &HostRuntime) -> anyhow::Result<usize> {
     match env::args(rt)?.nth(1) {

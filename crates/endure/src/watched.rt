@@ -1,5 +1,4 @@
 // A display with the faults that it gave since they were last compared.
-use anyhow::Context;
 use display::display::Display;
 use history::compare::same_lives;
 use list::BoundedList;
@@ -13,6 +12,8 @@ pub struct Watched<P> {
     // lent for a piece's faults, and enough for those of 96 bytes
     places: Vec<Fault>,
     faults: Vec<Fault>,
+    // whether a piece was refused, which must not be
+    refused: bool,
 }
 
 impl<P: Panel + Drop> Watched<P> {
@@ -21,17 +22,14 @@ impl<P: Panel + Drop> Watched<P> {
             display,
             places: vec![in heap; UNUSED; 192]?,
             faults: Vec::new(heap),
+            refused: false,
         })
     }
 
-    pub fn feed(&mut self, piece: &[u8]) -> anyhow::Result<()> {
+    pub fn feed(&mut self, piece: &[u8]) -> Result<(), AllocError> {
         let mut faults = BoundedList::over(self.places.as_mut_slice());
-        self.display
-            .feed(piece, &mut faults)
-            .ok()
-            .context("a piece was refused")?;
-        self.faults.extend_from_slice(faults.as_slice())?;
-        Ok(())
+        self.refused |= self.display.feed(piece, &mut faults).is_err();
+        self.faults.extend_from_slice(faults.as_slice())
     }
 
     pub fn tick(&mut self) -> Result<(), AllocError> {
@@ -49,8 +47,10 @@ impl<P: Panel + Drop> Watched<P> {
         self.faults.clear();
     }
 
-    // Whether another display answers every question alike, and gave the same faults.
+    // Whether another display answers every question alike, and gave the same faults; not where a piece was refused.
     pub fn is_like<Q: Panel + Drop>(&self, other: &Watched<Q>) -> bool {
-        same_lives(&self.display, self.faults(), &other.display, other.faults())
+        !self.refused
+            && !other.refused
+            && same_lives(&self.display, self.faults(), &other.display, other.faults())
     }
 }

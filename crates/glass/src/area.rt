@@ -2,7 +2,9 @@
 ghost use Rattle.std.specs.Prelude.{◌≡◌};
 ghost use Rattle.glass.specs.Places.{holds, lawful, apart, place_at};
 
-// How many places the glass has.
+// How many places a row of the glass has, and the whole glass.
+pub const COLUMNS: usize = 20;
+
 pub const PLACES: usize = 40;
 
 // A column and a row of the glass, or beside it.

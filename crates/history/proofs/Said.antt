@@ -1,6 +1,10 @@
 -- Equality of answers, as `==` finds it.
-use Rattle.std.proofs.Common.{◌≡◌, Bool, true, false, Some, None, Option, Ok, Err, Result, Decides, sym, ap, rules}
+use Rattle.std.proofs.Common.{◌≡◌, List, Bool, true, false, Some, None, Option, Ok, Err, Result, Decides, sym, ap, rules}
 use Rattle.std.proofs.lemmas.Bool.{true≢false}
+use Rattle.std.specs.Cmp.Lexicographic.{pointwise}
+use Rattle.std.proofs.lemmas.Slice.Eq.{slice_eq-Decides}
+use Rattle.terms.specs.declared.fault.Fault.{Fault}
+use Rattle.terms.specs.contracts.fault.FaultPartialEq.TheImpl as fault_eq
 use Rattle.std.specs.Option.{option_eq}
 use Rattle.std.specs.Result.{result_eq}
 use mathlib.Core.Bool.{beq}
@@ -16,6 +20,9 @@ use Rattle.state.specs.contracts.controller.questions.ModesPartialEq.TheImpl as 
 use Rattle.display.specs.declared.words.Answer.{Answer}
 use Rattle.display.specs.declared.words.Answer.TheVariants.{Cell, Cursor, Window, User, Macro, Lamp, Modes}
 use Rattle.display.specs.contracts.words.AnswerPartialEq.TheImpl as answer_eq
+
+pub faults_decide : (xs ys : List Fault) (r : Bool) → r ≡ pointwise fault_eq.ghosts.eq xs ys → Decides r (xs ≡ ys)
+faults_decide = slice_eq-Decides (λ a b. search rules)
 
 pub result_eq-Decides : {A E : Type 0} {f : A → A → Bool} {g : E → E → Bool} → ((a b : A) → Decides (f a b) (a ≡ b)) → ((a b : E) → Decides (g a b) (a ≡ b)) →
     (r s : Result A E) → Decides (result_eq f g r s) (r ≡ s)

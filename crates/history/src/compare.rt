@@ -20,6 +20,7 @@ fn same_at<P: Panel, Q: Panel>(a: &Display<P>, b: &Display<Q>, question: Questio
     }
 }
 
+// (Here and below a loop and no `all`, whose proof would need the closure's contract by hand.)
 fn same_row<P: Panel, Q: Panel>(a: &Display<P>, b: &Display<Q>, row: u8) -> bool
     ensures { Decides result ((x : ℕ) → AgreeOn P.make Q.make a.now b.now (Cell x row)) }
 {
@@ -103,6 +104,7 @@ pub fn same<P: Panel, Q: Panel>(a: &Display<P>, b: &Display<Q>) -> bool
 }
 
 // Whether the same faults came, in the same order.
+#[tactic(auto, using(crate::proofs::Said::faults_decide))]
 pub fn same_faults(a: &[Fault], b: &[Fault]) -> bool
     ensures { Decides result (a.now ≡ b.now) }
 {

@@ -1,5 +1,4 @@
 pub mod Forty
 pub mod Laws
 pub mod Numbers
-pub mod Plain
 pub mod Steps

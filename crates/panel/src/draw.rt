@@ -6,14 +6,14 @@ ghost use Rattle.panel.specs.Laws.{Drew};
 ghost use Rattle.panel.specs.Steps.{touches, rises, falls, Only, stepped, written};
 
 use crate::panel::Panel;
-use glass::area::{Area, PLACES, Position};
+use glass::area::{Area, COLUMNS, PLACES, Position};
 use glass::stroke::{BLANK, Ink, Stroke};
 
 fn position(place: usize) -> Position
     requires { place < 40 }
     ensures { result ≡ record { column = column place; row = line place } }
 {
-    if place < 20 {
+    if place < COLUMNS {
         Position {
             column: place as u8 + 1,
             row: 1,

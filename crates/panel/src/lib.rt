@@ -3,7 +3,9 @@
 
 pub mod draw;
 mod panel;
+mod picture;
 mod plain;
 
 pub use panel::{Panel, PanelRefusal};
+pub use picture::Picture;
 pub use plain::PlainPanel;

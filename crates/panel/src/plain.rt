@@ -1,45 +1,38 @@
-// The plain panel: forty numbers, and nothing to do when they are painted.
-ghost use Rattle.std.specs.Prelude.{◌≡◌, replicate};
-ghost use Rattle.panel.specs.Plain.{plain, plain_cells, plain_laws};
+// The plain panel: a picture, and nothing to do when it is painted.
+ghost use Rattle.std.specs.Prelude.{◌≡◌, length, replicate, slice_set};
+ghost use Rattle.std.proofs.Common.{ap};
 
 use crate::panel::{Panel, PanelRefusal};
+use crate::picture::Picture;
 
-// (No ghost field says that there are forty: no display can hold a panel with one beside a `&mut`, and a strip panel
-// has a plain one in it.)
 #[derive(Drop)]
 pub struct PlainPanel {
-    held: [u64; 40],
+    picture: Picture,
+    ghost forty: { length picture.held ≡ 40 },
 }
 
 impl PlainPanel {
     // Blank everywhere.
     pub fn new() -> PlainPanel
-        ensures { plain_cells result ≡ replicate 40 32 }
+        ensures { result.picture.held ≡ replicate 40 32 }
     {
-        PlainPanel { held: [32; 40] }
+        PlainPanel {
+            picture: Picture::blank(),
+        }
     }
 }
 
 impl Panel for PlainPanel {
-    ghost make = { plain };
+    ghost make = { record { cells = λ p. p.picture.held; puts = λ p place cell q. q.picture.held ≡ slice_set p.picture.held place cell; paints = λ p q. q ≡ p } };
 
-    ghost laws = { plain_laws };
+    ghost laws = { record { forty = λ p. p.forty; putting = λ p q place cell h. h; painting = λ p q h. ap (λ x. x.picture.held) h } };
 
     fn put(&mut self, place: usize, cell: u64) -> Result<(), PanelRefusal> {
-        if place < self.held.len() {
-            self.held[place] = cell;
-            Ok(())
-        } else {
-            Err(PanelRefusal::OffGlass)
-        }
+        self.picture.put(place, cell)
     }
 
     fn look(&self, place: usize) -> Result<u64, PanelRefusal> {
-        if place < self.held.len() {
-            Ok(self.held[place])
-        } else {
-            Err(PanelRefusal::OffGlass)
-        }
+        self.picture.look(place)
     }
 
     fn painted(&mut self) {}

@@ -5,12 +5,9 @@ use history::replay::{Happening, replay};
 use painter::{Pending, waiting};
 use panel::{Panel, PlainPanel};
 use std::alloc::{AllocError, Global};
-use strip::{Change, StripPanel};
+use strip::{NO_CHANGE, StripPanel};
 use terms::fault::Fault;
 use terms::settings::Settings;
-
-// What lent places hold before they are used.
-pub const NO_CHANGE: Change = Change { place: 0, cell: 32 };
 
 // A replay over a strip panel has so many places, and is painted before each so many happenings: text fits, and a
 // scroll runs the list over.

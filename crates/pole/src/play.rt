@@ -1,10 +1,12 @@
 // The lines of a script: those before a display is on, and those while one is on.
-ghost use Rattle.std.specs.Prelude.{◌<◌, ◌≤◌, length, IfOk, IfSome};
+ghost use Rattle.std.specs.Prelude.{◌<◌, length, IfOk, IfSome};
+ghost use Rattle.pole.specs.Left.{NoMore};
 
 use crate::answers::{Glass, Told, ToldFault};
-use crate::life::{Life, Made, NO_CHANGE};
+use crate::life::{Life, Made};
 use crate::show::Picture;
 use display::display::Display;
+use display::display::calls::LONGEST;
 use display::words::Question;
 use history::replay::Happening;
 use items::walk::walk;
@@ -16,12 +18,12 @@ use requests::parse::request;
 use requests::requests::{Make, Mistake, Request};
 use script::lines::Lines;
 use script::words::{after_first, hex_bytes, words};
-use strip::StripPanel;
+use strip::{NO_CHANGE, StripPanel};
 use terms::fault::{Fault, UNUSED};
 use terms::settings::Settings;
 
-// The fault places of a feed, unless `room` says fewer.
-const MOST_PLACES: usize = 8192;
+// The fault places of a feed, unless `room` says fewer: enough for the longest piece.
+const MOST_PLACES: usize = 2 * LONGEST;
 
 // The places that a feed lends, and how many of them.
 #[derive(Drop)]
@@ -65,7 +67,7 @@ impl<'r> Play<'r> {
     // The next line of the script.
     fn line<'a>(&self, lines: &mut Lines<'a>) -> anyhow::Result<Option<Line<'a>>>
         ensures less { IfOk result (λ o. IfSome o (λ _. length lines.new.rest.now < length lines.old.rest.now)) }
-        ensures no_more { length lines.new.rest.now ≤ length lines.old.rest.now }
+        ensures no_more { NoMore lines.old lines.new }
     {
         let Some(text) = lines.next() else {
             return Ok(None);
@@ -147,7 +149,7 @@ impl<'r> Play<'r> {
         settings: Settings,
         make: Make,
     ) -> anyhow::Result<()>
-        ensures { length lines.new.rest.now ≤ length lines.old.rest.now }
+        ensures { NoMore lines.old lines.new }
     {
         match make {
             Make::Plain => self.play(lines, settings, PlainPanel::new()),
@@ -165,7 +167,7 @@ impl<'r> Play<'r> {
         settings: Settings,
         panel: P,
     ) -> anyhow::Result<()>
-        ensures { length lines.new.rest.now ≤ length lines.old.rest.now }
+        ensures { NoMore lines.old lines.new }
     {
         let mut life = Life::switch_on(self.rt.alloc(), settings, panel);
         println!(self.rt; "on")?;
@@ -235,9 +237,8 @@ impl<'r> Play<'r> {
                     println!(self.rt; "{}", ToldFault(*fault))?;
                 }
                 life.faults.extend_from_slice(faults.as_slice())?;
-                for &byte in piece {
-                    life.happened.push(Happening::Byte { byte })?;
-                }
+                let bytes = piece.iter().map(|byte| Happening::Byte { byte: *byte });
+                life.happened.extend(bytes)?;
                 Ok(())
             }
             Err(refusal) => self.refused(u8::from(refusal)),

@@ -28,10 +28,11 @@ impl<P: Panel> fmt::Display for Picture<'_, P> {
         if let Ok(Answer::Modes { modes }) = self.0.ask(Question::Modes) {
             state(f, modes)?;
         }
-        match self.0.ask(Question::Lamp) {
-            Ok(Answer::Lamp { lit: true }) => f.write_str(", lamp lit"),
-            _ => f.write_str(", lamp dark"),
+        if let Ok(Answer::Lamp { lit }) = self.0.ask(Question::Lamp) {
+            let lamp = if lit { "lit" } else { "dark" };
+            write!(f, ", lamp {lamp}")?;
         }
+        Ok(())
     }
 }
 

@@ -267,6 +267,15 @@ impl Mark {
     }
 }
 
+// The sign of a mark, as it is written.
+impl From<Mark> for char {
+    ghost from_gives = { λ mark sign. sign ≡ mark_byte mark };
+
+    fn from(mark: Mark) -> char {
+        char::from(mark.byte())
+    }
+}
+
 // The number by which it is told.
 impl From<Mode> for u8 {
     ghost from_gives = { λ mode number. number ≡ mode_number mode };

@@ -6,7 +6,7 @@ use list::BoundedList;
 use panel::{Panel, PlainPanel};
 use std::process::Abort;
 use std::test::Fail;
-use strip::{Change, StripPanel};
+use strip::{NO_CHANGE, StripPanel};
 use terms::fault::UNUSED;
 use terms::settings::Settings;
 
@@ -31,7 +31,7 @@ fn three_makes_show_the_same(rt: HostRuntime) -> Result<(), Fail> {
     let settings = settings()?;
     let mut rows = Display::switch_on(settings, RowsPanel::new());
     let mut plain = Display::switch_on(settings, PlainPanel::new());
-    let mut places = [Change { place: 0, cell: 0 }; 3];
+    let mut places = [NO_CHANGE; 3];
     let mut strip = Display::switch_on(settings, StripPanel::over(&mut places));
     assert!(rt; same(&rows, &plain));
     feed(&rt, &mut rows)?;

@@ -25,10 +25,7 @@ fn settings_are_refused_in_order(rt: HostRuntime) {
 }
 
 fn lawful() -> Result<Settings, Fail> {
-    match Settings::check(0, 0, 4) {
-        Ok(settings) => Ok(settings),
-        Err(_) => Err(Fail::new("lawful settings")),
-    }
+    Settings::check(0, 0, 4).map_err(|_| Fail::new("lawful settings"))
 }
 
 fn switched_on() -> Result<Display<PlainPanel>, Fail> {

@@ -2,15 +2,14 @@
 -- character. Assumes nothing.
 use Rattle.std.specs.Prelude.{◌≡◌, ℕ, ◌+◌, ◌*◌, ◌/◌, ◌%◌, ◌^◌, ◌<◌, false, cond, ◌&&◌, Some, None, Option, ◌==◌, nat_le}
 use Rattle.script.specs.declared.cells.CellParts.{CellParts}
-use Rattle.script.specs.declared.cells.Mark.{Mark}
-use Rattle.script.specs.declared.cells.Mark.TheVariants.{Point, Comma, Semicolon}
+use Rattle.reader.specs.declared.words.Mark.{Mark}
+use Rattle.reader.specs.declared.words.Mark.TheVariants.{Point, Comma, Semicolon}
+use Rattle.reader.specs.Numbers.{mark_number, mark_byte}
 
 -- the number that a mark has in a cell
-abbrev pub mark_number : Option Mark → ℕ
-mark_number None = 0
-mark_number (Some Point) = 1
-mark_number (Some Comma) = 2
-mark_number (Some Semicolon) = 3
+abbrev pub mark_bits : Option Mark → ℕ
+mark_bits None = 0
+mark_bits (Some m) = mark_number m
 
 abbrev mark_by : ℕ → Option Mark
 mark_by n = cond (n == 1) (Some Point) (cond (n == 2) (Some Comma) (cond (n == 3) (Some Semicolon) None))
@@ -27,15 +26,10 @@ glyph_by p = cond p.user 0x2592 (cond (nat_le 0x20 p.code && nat_le p.code 0x7E)
 abbrev pub glyph_of : ℕ → ℕ
 glyph_of cell = glyph_by (parts_of cell)
 
-abbrev pub char_of : Mark → ℕ
-char_of Point = 46
-char_of Comma = 44
-char_of Semicolon = 59
-
 -- a mark as it is written: none is a blank
 abbrev sign_by : Option Mark → ℕ
 sign_by None = 32
-sign_by (Some m) = char_of m
+sign_by (Some m) = mark_byte m
 
 abbrev pub sign_of : ℕ → ℕ
 sign_of cell = sign_by (parts_of cell).mark
@@ -44,4 +38,4 @@ sign_of cell = sign_by (parts_of cell).mark
 abbrev pub PartsTell : Type 0
 PartsTell =
     (code table set : ℕ) (mark : Option Mark) → code < 256 → table < 256 → set < 256
-    → parts_of (code + 256 * table + 65536 * set + 2 ^ 40 * mark_number mark) ≡ record { code = code; table = table; set = set; mark = mark; user = false }
+    → parts_of (code + 256 * table + 65536 * set + 2 ^ 40 * mark_bits mark) ≡ record { code = code; table = table; set = set; mark = mark; user = false }

@@ -1,26 +1,8 @@
 // A cell taken apart (RULES, Cells), and the signs that stand for it in a picture.
 ghost use Rattle.std.specs.Prelude.{◌≡◌, ◌+◌, ◌*◌, ◌^◌, ◌<◌};
-ghost use Rattle.script.specs.Signs.{mark_of, char_of, parts_of, glyph_of, sign_of, PartsTell};
+ghost use Rattle.script.specs.Signs.{mark_of, parts_of, glyph_of, sign_of, PartsTell};
 
-// A mark beside a character.
-#[derive(Clone, Copy, Debug, PartialEq, Eq)]
-pub enum Mark {
-    Point,
-    Comma,
-    Semicolon,
-}
-
-impl From<Mark> for char {
-    ghost from_gives = { λ m c. c ≡ char_of m };
-
-    fn from(mark: Mark) -> char {
-        match mark {
-            Mark::Point => '.',
-            Mark::Comma => ',',
-            Mark::Semicolon => ';',
-        }
-    }
-}
+use reader::words::Mark;
 
 #[derive(Clone, Copy, Debug, PartialEq, Eq)]
 pub struct CellParts {

@@ -8,27 +8,20 @@ use Rattle.std.proofs.lemmas.Grind.{reverse_onto, get_or-set_at}
 use Rattle.std.proofs.lemmas.Bool.{cases_lt}
 use Rattle.std.proofs.lemmas.Bool.Decides.{nat_tests}
 use Rattle.list.specs.Entries.{entries, places, capacity}
-use Rattle.panel.specs.declared.plain.PlainPanel.{PlainPanel}
-use Rattle.panel.specs.Forty.{forty_length}
-use Rattle.panel.specs.Plain.{plain_cells}
+use Rattle.panel.specs.declared.picture.Picture.{Picture}
+use Rattle.panel.specs.Forty.{forty, forty_length}
 use Rattle.strip.specs.declared.strip.Change.{Change}
 use Rattle.strip.specs.declared.strip.StripPanel.{StripPanel}
 use Rattle.strip.specs.Strip.{picture_of, waiting_of, merged, HasRoom, IsFull, Appends, Overflows, Writes, Roomed, Added, Puts}
 use Rattle.strip.specs.Latest.{latest, Latest}
 use Rattle.strip.specs.Laws.{merged_push, none_waits}
 
--- a put into the picture, at any place: off the glass nothing is put
-pub pictured : (p q : PlainPanel) (k v : ℕ) → (k < 40 → plain_cells q ≡ set (plain_cells p) k v) → (40 ≤ k → q ≡ p) → plain_cells q ≡ set (plain_cells p) k v
-pictured p q k v on off =
-    ⊎_elim on (λ h. ap plain_cells (off h) ∙ sym (set_past (plain_cells p) k v (omega (arith, forty_length p.held)))) (cases_lt k 40)
-
 -- one change more in the picture
-pub merged_put : (g : List ℕ) (p q : PlainPanel) (cs : List Change) (i : ℕ) (d : Change) → plain_cells p ≡ merged g (take i cs) → i < length cs →
-    ((get_or cs i d).place < 40 → plain_cells q ≡ set (plain_cells p) (get_or cs i d).place (get_or cs i d).cell) → (40 ≤ (get_or cs i d).place → q ≡ p) →
-    plain_cells q ≡ merged g (take (i + 1) cs)
-merged_put g p q cs i d e h on off =
+pub merged_put : (g : List ℕ) (p q : Picture) (cs : List Change) (i : ℕ) (d : Change) → forty p.held ≡ merged g (take i cs) → i < length cs →
+    forty q.held ≡ set (forty p.held) (get_or cs i d).place (get_or cs i d).cell → forty q.held ≡ merged g (take (i + 1) cs)
+merged_put g p q cs i d e h put =
     let c = get_or cs i d in
-    pictured p q c.place c.cell on off ∙ ap (λ x. set x c.place c.cell) e ∙ sym (merged_push g (take i cs) c) ∙ sym (ap (merged g) (take_more cs i d h))
+    put ∙ ap (λ x. set x c.place c.cell) e ∙ sym (merged_push g (take i cs) c) ∙ sym (ap (merged g) (take_more cs i d h))
 
 -- the change that a place takes from one change
 abbrev here : ℕ → Change → Option ℕ

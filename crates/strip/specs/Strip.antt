@@ -1,12 +1,12 @@
 -- What a strip panel means, and what a put and a painting leave of it.
 use Rattle.std.specs.Prelude.{◌≡◌, ℕ, ◌<◌, ◌≤◌, Bool, true, false, List, [], ◌∷◌, ◌++◌, length, slice_set}
 use Rattle.list.specs.Entries.{entries, places, capacity}
-use Rattle.panel.specs.Plain.{plain_cells}
+use Rattle.panel.specs.Forty.{forty}
 use Rattle.strip.specs.declared.strip.Change.{Change}
 use Rattle.strip.specs.declared.strip.StripPanel.{StripPanel}
 
 abbrev pub picture_of : StripPanel → List ℕ
-picture_of s = plain_cells s.picture
+picture_of s = forty s.picture.held
 
 -- the changes that wait to be painted, oldest first
 abbrev pub waiting_of : StripPanel → List Change

@@ -3,4 +3,4 @@
 
 mod strip;
 
-pub use strip::{Change, StripPanel};
+pub use strip::{Change, NO_CHANGE, StripPanel};

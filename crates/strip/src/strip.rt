@@ -6,7 +6,7 @@ ghost use Rattle.strip.specs.Strip.{picture_of, waiting_of};
 ghost use Rattle.strip.specs.Waiting.{KeepsWaiting};
 
 use list::BoundedList;
-use panel::PlainPanel;
+use panel::Picture;
 
 pub mod cells;
 
@@ -17,11 +17,14 @@ pub struct Change {
     pub cell: u64,
 }
 
+// What a place for a change holds before it is used.
+pub const NO_CHANGE: Change = Change { place: 0, cell: 32 };
+
 // The picture is the cells as they were when the list of changes began. The changes came after it, oldest first;
 // `all` is the flag that tells the painter to paint all places.
 #[derive(Drop)]
 pub struct StripPanel<'a> {
-    picture: PlainPanel,
+    picture: Picture,
     changes: BoundedList<'a, Change>,
     all: bool,
 }
@@ -36,7 +39,7 @@ impl<'a> StripPanel<'a> {
         ensures lent { result.changes.slots.ghost_name ≡ places.entry.ghost_name }
     {
         StripPanel {
-            picture: PlainPanel::new(),
+            picture: Picture::blank(),
             changes: BoundedList::over(places),
             all: false,
         }

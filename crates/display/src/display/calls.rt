@@ -20,7 +20,7 @@ use terms::fault::Fault;
 use terms::settings::Settings;
 
 // The longest piece that is fed at once.
-const LONGEST: usize = 4096;
+pub const LONGEST: usize = 4096;
 
 fn draw_some<P: Panel>(panel: &mut P, stroke: Option<Stroke>)
     ensures { Drew P.make panel.old (drawn_all (one stroke) (P.make.cells panel.old)) panel.new }
@@ -162,10 +162,10 @@ impl<P: Panel> Display<P> {
         let place = Position { column, row }
             .place()
             .ok_or(AskRefusal::OffGlass)?;
-        match self.panel.look(place) {
-            Ok(cell) => Ok(Answer::Cell { cell }),
-            Err(_) => Err(AskRefusal::OffGlass),
-        }
+        self.panel
+            .look(place)
+            .map(|cell| Answer::Cell { cell })
+            .map_err(|_| AskRefusal::OffGlass)
     }
 
     // The held panel, to be looked at between calls.

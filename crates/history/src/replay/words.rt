@@ -3,7 +3,7 @@ use display::display::Display;
 use terms::fault::Fault;
 
 // What a display is given: a byte, a tick, or the word that it was painted, which is no event of the rules.
-#[derive(Clone, Copy)]
+#[derive(Clone, Copy, Debug, PartialEq, Eq)]
 pub enum Happening {
     Byte { byte: u8 },
     Tick,

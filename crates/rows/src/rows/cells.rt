@@ -4,10 +4,8 @@ ghost use Rattle.std.proofs.Common.{ap, ◌∙◌, arith};
 ghost use Rattle.std.proofs.lemmas.List.{length-append};
 
 use crate::rows::RowsPanel;
-use glass::area::PLACES;
+use glass::area::{COLUMNS, PLACES};
 use panel::{Panel, PanelRefusal};
-
-const COLUMNS: usize = 20;
 
 impl Panel for RowsPanel {
     ghost make = { record {
