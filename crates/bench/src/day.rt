@@ -16,7 +16,7 @@ pub struct Day {
     pub pauses: Vec<Pause>,
 }
 
-// A linear congruential generator, whose upper bits are used.
+// A linear congruential generator, whose upper bits are used. (`endure` has another, which its output rests on.)
 #[derive(Drop)]
 struct Dice {
     state: u32,

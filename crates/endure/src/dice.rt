@@ -1,4 +1,5 @@
-// Numbers drawn by a fixed rule: one seed gives the same numbers on every machine.
+// Numbers drawn by a fixed rule: one seed gives the same numbers on every machine. (`bench` draws by another rule, of another
+// width; what either prints rests on its own.)
 ghost use Rattle.std.specs.Prelude.{◌<◌, ◌≤◌, length};
 
 #[derive(Drop)]

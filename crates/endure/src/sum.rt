@@ -1,4 +1,5 @@
-// A checksum of numbers: FNV-1a over 64 bits, by whole numbers in place of bytes.
+// A checksum of numbers: FNV-1a over 64 bits, by whole numbers in place of bytes. (`bench` sums bytes; a crate for both would
+// hold ten lines.)
 #[derive(Drop)]
 pub struct Sum {
     pub code: u64,

@@ -17,7 +17,7 @@ pub struct Part<'a> {
     pub bytes: &'a [u8],
 }
 
-// The items of a buffer from the place `at` on.
+// The items of a buffer from the place `at` on. (The whole buffer and no rest of it: the place is told with each part.)
 #[derive(Drop)]
 pub struct Items<'a> {
     pub(crate) buffer: &'a [u8],

@@ -18,7 +18,7 @@ impl From<ListRefusal> for u8 {
     }
 }
 
-// The first `len` places are in use. No ghost field ties `len` to the places, since a struct that
+// The first `len` places are in use; they are lent, so that nothing needs a heap. No ghost field ties `len` to the places, since a struct that
 // has one and holds a `&mut` cannot be held by value in another: so every method stands at any `len`.
 #[derive(Drop)]
 pub struct BoundedList<'a, T> {

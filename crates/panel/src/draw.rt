@@ -93,7 +93,8 @@ fn step<P: Panel>(panel: &mut P, stroke: Stroke, place: usize)
     }
 }
 
-// Draws the places in rising order.
+// Draws the places in rising order. (The order is the point, and places are the subject: one loop over either order would
+// take a flag, or an iterator whose order its contract has to name.)
 fn draw_up<P: Panel>(panel: &mut P, stroke: Stroke)
     requires { rises stroke.ink ≡ true }
     ensures { Drew P.make panel.old (drawn stroke (P.make.cells panel.old)) panel.new }

@@ -115,6 +115,7 @@ pub(crate) fn forget(byte: u8) -> Step
     }
 }
 
+// Window 0 is the whole glass. (What follows of 0, of a slot and of neither is another thing wherever it is asked.)
 pub(crate) fn window_number(byte: u8) -> Step
     ensures { result ≡ step Reading.WindowN byte }
 {

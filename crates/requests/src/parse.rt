@@ -49,7 +49,7 @@ fn operand<'b, 'a>(most: u32, words: &'b [&'a [u8]]) -> Result<(u32, &'b [&'a [u
     Ok((n, rest))
 }
 
-// The next word as a byte, and the words after it.
+// The next word as a byte, and the words after it. (A generic over `TryFrom` would have to promise when that fails.)
 fn byte_operand<'b, 'a>(words: &'b [&'a [u8]]) -> Result<(u8, &'b [&'a [u8]]), Mistake>
     ensures { Taken 255 (texts words.now) result }
 {

@@ -30,7 +30,7 @@ pub struct Move {
     pub ink: Option<Ink>,
 }
 
-// The cursor goes to a place, and nothing is drawn.
+// The cursor goes to a place, and nothing is drawn. (By two numbers, of which the position is made here alone.)
 fn goes(column: u8, row: u8) -> Move
     ensures { result ≡ goes column row }
 {

@@ -16,7 +16,8 @@ pub enum Use {
     Playing { n: u8, m: u8, wait: u16, next: u8 },
 }
 
-// A recording has at most 82 bytes, the pair that closes it among them; so a macro has 1 to 80.
+// A recording has at most 82 bytes, the pair that closes it among them; so a macro has 1 to 80. (An array and a length: the
+// memory of a device is fixed.)
 #[derive(Clone, Copy)]
 pub struct Tape {
     bytes: [u8; 82],

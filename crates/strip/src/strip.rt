@@ -21,7 +21,7 @@ pub struct Change {
 pub const NO_CHANGE: Change = Change { place: 0, cell: 32 };
 
 // The picture is the cells as they were when the list of changes began. The changes came after it, oldest first;
-// `all` is the flag that tells the painter to paint all places.
+// `all` is the flag that tells the painter to paint all places. (A flag and no enum: changes wait under a raised flag too.)
 #[derive(Drop)]
 pub struct StripPanel<'a> {
     picture: Picture,

@@ -156,6 +156,7 @@ impl<P: Panel> Display<P> {
         }
     }
 
+    // By what a question has; a position is made of it once.
     fn cell(&self, column: u8, row: u8) -> Result<Answer, AskRefusal>
         ensures { Asks P.make self.now (Question.Cell column row) result }
     {

@@ -50,7 +50,7 @@ fn reply(voice: Voice, selected: bool, answer: Result<Strokes, DisplayFault>) ->
 }
 
 impl Controller {
-    // Carries out what was heard.
+    // Carries out what was heard. (Two clauses, since an act is no `Effect`: it tells what was carried out as well.)
     fn obey(&mut self, heard: Result<Option<Item>, ReadFault>) -> Result<Strokes, DisplayFault>
         ensures answer { result ≡ (obeyed heard (core_of self.old)).answer }
         ensures core { core_of self.new ≡ (obeyed heard (core_of self.old)).core }

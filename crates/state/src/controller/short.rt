@@ -61,6 +61,7 @@ impl Controller {
     }
 
     // Takes a host byte with which a command goes on, or the cursor goes to a place of the window; any other byte is not taken.
+    // (Whether it was taken is all that there is to tell.)
     pub fn passes(&mut self, byte: u8) -> bool
         ensures { Passes byte (core_of self.old) result (core_of self.new) }
     {

@@ -70,7 +70,7 @@ impl Tape {
         }
     }
 
-    // Starts to play at a pace.
+    // Starts to play at a pace. (Two clauses: no other call of a tape answers so.)
     pub(crate) fn play(&mut self, n: u8, m: u8) -> Result<(), DisplayFault>
         ensures answer { result ≡ (playing (reel_of self.old) n m).answer }
         ensures left { reel_of self.new ≡ (playing (reel_of self.old) n m).left }
