@@ -20,7 +20,7 @@ impl Position {
         ensures { result ≡ place_at self.column self.row }
     {
         if WHOLE.holds(self) {
-            Some(20 * (self.row as usize - 1) + (self.column as usize - 1))
+            Some(COLUMNS * (self.row as usize - 1) + (self.column as usize - 1))
         } else {
             None
         }

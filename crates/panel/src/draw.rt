@@ -134,7 +134,7 @@ pub fn write_cell<P: Panel>(panel: &mut P, at: Position, cell: u64)
 }
 
 // All forty cells, by place.
-pub fn cells<P: Panel>(panel: &P) -> [u64; 40]
+pub fn cells<P: Panel>(panel: &P) -> [u64; PLACES]
     ensures { result ≡ P.make.cells panel.now }
 {
     let mut all = [BLANK; PLACES];

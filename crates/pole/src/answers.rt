@@ -1,6 +1,6 @@
 // The answers to single lines, as they are printed.
 use display::words::Answer;
-use glass::area::{Area, Position};
+use glass::area::{Area, PLACES, Position};
 use std::fmt;
 use terms::fault::Fault;
 
@@ -55,7 +55,7 @@ impl fmt::Display for ToldFault {
 
 // The forty cells by place.
 #[derive(Clone, Copy)]
-pub struct Glass(pub [u64; 40]);
+pub struct Glass(pub [u64; PLACES]);
 
 impl fmt::Display for Glass {
     fn fmt<W: fmt::Write>(&self, f: &mut fmt::Formatter<W>) -> fmt::Result {

@@ -2,6 +2,7 @@
 // then the state in a line.
 use display::display::Display;
 use display::words::{Answer, Question};
+use glass::area::COLUMNS;
 use panel::Panel;
 use panel::draw::cells;
 use reader::words::Mode;
@@ -17,7 +18,7 @@ pub struct Picture<'a, P>(pub &'a Display<P>);
 impl<P: Panel> fmt::Display for Picture<'_, P> {
     fn fmt<W: fmt::Write>(&self, f: &mut fmt::Formatter<W>) -> fmt::Result {
         writeln!(f, "{FRAME}")?;
-        for row in cells(self.0.panel()).chunks(20) {
+        for row in cells(self.0.panel()).chunks(COLUMNS) {
             line(f, row, glyph)?;
             line(f, row, sign)?;
         }

@@ -7,6 +7,7 @@ use Rattle.reader.specs.declared.words.Mode.{Mode}
 use Rattle.reader.specs.declared.words.Mode.TheVariants.{Overwrite, Vertical, Horizontal}
 use Rattle.reader.specs.declared.words.Slot.{Slot}
 use Rattle.reader.specs.declared.words.Slot.TheVariants.{First, Second, Third, Fourth}
+use Rattle.reader.specs.declared.words.NoMark.{NoMark}
 use Rattle.reader.specs.declared.words.NoSlot.{NoSlot}
 use Rattle.reader.specs.declared.words.ReadFault.{ReadFault}
 use Rattle.reader.specs.declared.words.ReadFault.TheVariants.{Unknown, OutOfRange}
@@ -34,6 +35,10 @@ slot_number First = 1
 slot_number Second = 2
 slot_number Third = 3
 slot_number Fourth = 4
+
+-- the mark that has a number
+abbrev pub mark_numbered : ℕ → Result Mark NoMark
+mark_numbered n = cond (n == 1) (Ok Point) (cond (n == 2) (Ok Comma) (cond (n == 3) (Ok Semicolon) (Err (record {}))))
 
 -- the slot that has a number; 0, the whole glass, is none
 abbrev pub slot_numbered : ℕ → Result Slot NoSlot

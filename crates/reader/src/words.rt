@@ -1,6 +1,6 @@
 // The words of the reader: commands, faults, readings and outcomes.
 ghost use Rattle.std.specs.Prelude.{◌≡◌};
-ghost use Rattle.reader.specs.Numbers.{mark_number, mark_byte, mode_number, slot_number, slot_numbered, fault_cause, fault_first, fault_second, fault_operand};
+ghost use Rattle.reader.specs.Numbers.{mark_number, mark_numbered, mark_byte, mode_number, slot_number, slot_numbered, fault_cause, fault_first, fault_second, fault_operand};
 ghost use Rattle.reader.specs.Steps.{done, wait, fails};
 ghost use Rattle.reader.specs.declared.words.ReadFault.TheVariants.{OutOfRange};
 
@@ -263,6 +263,25 @@ impl Mark {
             Mark::Point => b'.',
             Mark::Comma => b',',
             Mark::Semicolon => b';',
+        }
+    }
+}
+
+// A number that no mark has.
+#[derive(Clone, Copy, Debug, PartialEq, Eq)]
+pub struct NoMark;
+
+impl TryFrom<u8> for Mark {
+    type Error = NoMark;
+
+    ghost try_from_gives = { λ number mark. mark ≡ mark_numbered number };
+
+    fn try_from(number: u8) -> Result<Mark, NoMark> {
+        match number {
+            1 => Ok(Mark::Point),
+            2 => Ok(Mark::Comma),
+            3 => Ok(Mark::Semicolon),
+            _ => Err(NoMark),
         }
     }
 }

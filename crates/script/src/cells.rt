@@ -17,12 +17,7 @@ pub struct CellParts {
 fn read_mark(cell: u64) -> Option<Mark>
     ensures { result ≡ mark_of cell }
 {
-    match cell / 0x100_0000_0000 % 4 {
-        1 => Some(Mark::Point),
-        2 => Some(Mark::Comma),
-        3 => Some(Mark::Semicolon),
-        _ => None,
-    }
+    Mark::try_from((cell / 0x100_0000_0000 % 4) as u8).ok()
 }
 
 pub fn parts(cell: u64) -> CellParts

@@ -28,7 +28,7 @@ pub struct Controller {
     tape: Tape,
 }
 
-// What a command draws, in order.
+// What a command draws, in order: never more than two, and no heap is needed.
 #[derive(Clone, Copy, Debug, PartialEq, Eq)]
 pub struct Strokes {
     pub first: Option<Stroke>,

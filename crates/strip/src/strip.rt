@@ -5,6 +5,7 @@ ghost use Rattle.list.specs.Entries.{places as places_of};
 ghost use Rattle.strip.specs.Strip.{picture_of, waiting_of};
 ghost use Rattle.strip.specs.Waiting.{KeepsWaiting};
 
+use glass::stroke::BLANK;
 use list::BoundedList;
 use panel::Picture;
 
@@ -18,7 +19,10 @@ pub struct Change {
 }
 
 // What a place for a change holds before it is used.
-pub const NO_CHANGE: Change = Change { place: 0, cell: 32 };
+pub const NO_CHANGE: Change = Change {
+    place: 0,
+    cell: BLANK,
+};
 
 // The picture is the cells as they were when the list of changes began. The changes came after it, oldest first;
 // `all` is the flag that tells the painter to paint all places. (A flag and no enum: changes wait under a raised flag too.)
