@@ -1,121 +1,20 @@
--- A stroke drawn place by place.
-use Rattle.std.proofs.Common.{◌≡◌, ℕ, ◌+◌, ◌-◌, ◌<◌, ◌≤◌, Bool, true, false, cond, ◌&&◌, eqb, ◌⊎◌, List, length, get_or, set, Some, None, sym, refl, ap, ◌∙◌, inl, inr, ⊎_elim, arith}
+-- A stroke drawn row by row.
+use Rattle.std.proofs.Common.{◌≡◌, ℕ, ◌+◌, ◌-◌, ◌<◌, ◌≤◌, min, max, Bool, true, false, cond, ◌&&◌, ◌||◌, eqb, ltb, leb, ◌⊎◌, List, length, get_or, set, sym, refl, ap, ◌∙◌, inl, inr, ⊎_elim, arith}
 use Rattle.std.proofs.lemmas.List.{ext_get_or, get_or_past, length-set, get_or-set_same, get_or-set_other}
-use Rattle.std.proofs.lemmas.Bool.{and_parts, and_from, and_left, and_right, cases_Bool, cases_eq, cond-false, true≢false}
+use Rattle.std.proofs.lemmas.Bool.{and_parts, and_left, and_right, cases_Bool, cases_eq, cases_lt, eq-eqb, ne_eqb, cond-true, cond-false, leb-true, true≢false}
 use Rattle.std.proofs.lemmas.Bool.Decides.{nat_tests}
 use Rattle.glass.specs.declared.area.Area.{Area}
+use Rattle.glass.specs.declared.area.Position.{Position}
 use Rattle.glass.specs.declared.stroke.Ink.{Ink}
 use Rattle.glass.specs.declared.stroke.Ink.TheVariants.{Blank, BlankRow, Write, ShiftLeft, ShiftRight, ScrollUp, ScrollDown}
 use Rattle.glass.specs.declared.stroke.Stroke.{Stroke}
-use Rattle.glass.specs.Places.{column, line, place, holds, whole, place_at}
+use Rattle.glass.specs.Places.{column, line, place, holds, whole, inside}
 use Rattle.glass.specs.Drawn.{blank, seen, inked, within, drawn}
-use Rattle.panel.specs.Steps.{touches, rises, falls, Only, cell_at, stepped}
-use Rattle.panel.proofs.Glass.{on_glass, place_column, whole_holds, seen_at, seen_here, drawn-length, drawn_in, drawn_out, drawn_past}
-
--- where an ink does not touch, it leaves what is seen
-untouched : (ink : Ink) (look : ℕ → ℕ → ℕ) (x y : ℕ) → touches ink x y ≡ false → inked ink look x y ≡ look x y
-untouched Blank look x y e = absurd (true≢false e)
-untouched (BlankRow r) look x y e = cond-false (eqb y r) blank (look x y) e
-untouched (Write p v) look x y e = cond-false (eqb x p.column && eqb y p.row) v (look x y) e
-untouched (ShiftLeft r) look x y e = cond-false (eqb y r) (look (x + 1) y) (look x y) e
-untouched (ShiftRight r) look x y e = cond-false (eqb y r) (look (x - 1) y) (look x y) e
-untouched ScrollUp look x y e = absurd (true≢false e)
-untouched ScrollDown look x y e = absurd (true≢false e)
-
-drawn_untouched : (s : Stroke) (g : List ℕ) (k : ℕ) → k < length g → (within s.area k ≡ true → touches s.ink (column k) (line k) ≡ false) → get_or (drawn s g) k 0 ≡ get_or g k 0
-drawn_untouched s g k l t =
-    ⊎_elim
-    (λ e. drawn_in s g k l e ∙ untouched s.ink (seen s.area g) (column k) (line k) (t e) ∙ seen_here s.area g k e)
-    (λ e. drawn_out s g k e)
-    (cases_Bool (within s.area k))
-
--- one step
-
-stepped-length : (s : Stroke) (k : ℕ) (g : List ℕ) → length (stepped s k g) ≡ length g
-stepped-length s k g = go (holds s.area (column k) (line k) && touches s.ink (column k) (line k))
-  where
-    go : (b : Bool) → length (cond b (set g k (cell_at s g k)) g) ≡ length g
-    go true = length-set g k (cell_at s g k)
-    go false = refl
-
-stepped_other : (s : Stroke) (k : ℕ) (g : List ℕ) (j : ℕ) → (j ≡ k → ⊥) → get_or (stepped s k g) j 0 ≡ get_or g j 0
-stepped_other s k g j n = go (holds s.area (column k) (line k) && touches s.ink (column k) (line k))
-  where
-    go : (b : Bool) → get_or (cond b (set g k (cell_at s g k)) g) j 0 ≡ get_or g j 0
-    go true = get_or-set_other g k j (cell_at s g k) 0 n
-    go false = refl
-
-stepped_here : (s : Stroke) (k : ℕ) (g : List ℕ) → k < 40 → k < length g → get_or (stepped s k g) k 0 ≡ get_or (drawn s g) k 0
-stepped_here s k g b l = go (cases_Bool h) (cases_Bool t)
-  where
-    h : Bool
-    h = holds s.area (column k) (line k)
-
-    t : Bool
-    t = touches s.ink (column k) (line k)
-
-    is : (v : Bool) → (h && t) ≡ v → get_or (stepped s k g) k 0 ≡ get_or (cond v (set g k (cell_at s g k)) g) k 0
-    is v e = ap (λ w. get_or (cond w (set g k (cell_at s g k)) g) k 0) e
-
-    go : (h ≡ true) ⊎ (h ≡ false) → (t ≡ true) ⊎ (t ≡ false) → get_or (stepped s k g) k 0 ≡ get_or (drawn s g) k 0
-    go (inl p) (inl q) =
-        is true (and_from h t p q) ∙ get_or-set_same g k (cell_at s g k) 0 l ∙ sym (drawn_in s g k l (and_from (holds whole (column k) (line k)) h (whole_holds k b) p))
-    go (inl p) (inr q) = is false (and_right h t q) ∙ sym (drawn_untouched s g k l (λ _. q))
-    go (inr p) q = is false (and_left h t p) ∙ sym (drawn_out s g k (and_right (holds whole (column k) (line k)) h p))
-
--- a stroke that touches no more than the place of one column and row
-
-at_some : (x y k : ℕ) → Some k ≡ place_at x y → (holds whole x y ≡ true) × (k ≡ place x y)
-at_some x y k e = go (holds whole x y) refl e
-  where
-    go : (b : Bool) → holds whole x y ≡ b → Some k ≡ cond b (Some (place x y)) None → (holds whole x y ≡ true) × (k ≡ place x y)
-    go true h t = (h, cc)
-    go false h t = absurd (let z : ◌≡◌ {A = ℕ} 0 1 = cc in omega arith)
-
-at_none : (x y : ℕ) → None ≡ place_at x y → holds whole x y ≡ false
-at_none x y e = go (holds whole x y) refl e
-  where
-    go : (b : Bool) → holds whole x y ≡ b → None ≡ cond b (Some (place x y)) None → holds whole x y ≡ false
-    go true h t = absurd (let z : ◌≡◌ {A = ℕ} 0 1 = cc in omega arith)
-    go false h t = h
-
-false_unless : (b : Bool) → (b ≡ true → ⊥) → b ≡ false
-false_unless true h = absurd (h refl)
-false_unless false h = refl
-
-pub drawn_one : (s : Stroke) (g : List ℕ) (c r k : ℕ) → length g ≡ 40 → Only s.ink c r → Some k ≡ place_at c r → stepped s k g ≡ drawn s g
-drawn_one s g c r k l only e =
-    ext_get_or 0 (stepped s k g) (drawn s g) (stepped-length s k g ∙ sym (drawn-length s g)) (λ j h. go j (omega (arith, stepped-length s k g)) (cases_eq j k))
-  where
-    at : (holds whole c r ≡ true) × (k ≡ place c r)
-    at = at_some c r k e
-
-    here : k < 40
-    here = let b = on_glass c r at.0 in let p = at.1 in omega arith
-
-    elsewhere : (j : ℕ) → (j ≡ k → ⊥) → touches s.ink (column j) (line j) ≡ true → ⊥
-    elsewhere j n t =
-        let o = only (column j) (line j) t in
-        n (sym (place_column j) ∙ (λ i. place (o.0 i) (o.1 i)) ∙ sym at.1)
-
-    go : (j : ℕ) → j < length g → (j ≡ k) ⊎ (j ≡ k → ⊥) → get_or (stepped s k g) j 0 ≡ get_or (drawn s g) j 0
-    go j h (inl q) = ap (λ i. get_or (stepped s k g) i 0) q ∙ stepped_here s k g here (omega arith) ∙ ap (λ i. get_or (drawn s g) i 0) (sym q)
-    go j h (inr n) = stepped_other s k g j n ∙ sym (drawn_untouched s g j h (λ _. false_unless (touches s.ink (column j) (line j)) (elsewhere j n)))
-
-pub drawn_none : (s : Stroke) (g : List ℕ) (c r : ℕ) → Only s.ink c r → None ≡ place_at c r → g ≡ drawn s g
-drawn_none s g c r only e =
-    ext_get_or 0 g (drawn s g) (sym (drawn-length s g)) (λ j h. sym (drawn_untouched s g j h (λ w. false_unless (touches s.ink (column j) (line j)) (nowhere j w))))
-  where
-    nowhere : (j : ℕ) → within s.area j ≡ true → touches s.ink (column j) (line j) ≡ true → ⊥
-    nowhere j w t =
-        let o = only (column j) (line j) t in
-        let p = (and_parts (holds whole (column j) (line j)) (holds s.area (column j) (line j)) w).0 in
-        true≢false (sym p ∙ (λ i. holds whole (o.0 i) (o.1 i)) ∙ at_none c r e)
-
--- place after place
+use Rattle.panel.specs.Steps.{rises, falls, cell_at, stepped, Rowed}
+use Rattle.panel.proofs.Glass.{on_glass, place_column, column_place, line_place, inside_within, seen_at, seen_here, drawn-length, drawn_in, drawn_out}
 
 -- the place from which an ink takes the cell of a place
-abbrev source : Ink → ℕ → ℕ
+abbrev pub source : Ink → ℕ → ℕ
 source Blank k = k
 source (BlankRow r) k = k
 source (Write p v) k = k
@@ -124,23 +23,25 @@ source (ShiftRight r) k = place (column k - 1) (line k)
 source ScrollUp k = place (column k) (line k + 1)
 source ScrollDown k = place (column k) (line k - 1)
 
-source_rises : (ink : Ink) (k : ℕ) → rises ink ≡ true → k ≤ source ink k
-source_rises Blank k e = omega arith
-source_rises (BlankRow r) k e = omega arith
-source_rises (Write p v) k e = omega arith
-source_rises (ShiftLeft r) k e = grind (arith, nat_tests)
-source_rises (ShiftRight r) k e = absurd (true≢false (sym e))
-source_rises ScrollUp k e = grind (arith, nat_tests)
-source_rises ScrollDown k e = absurd (true≢false (sym e))
+-- in a row nothing comes from a lower column, or from a higher one
 
-source_falls : (ink : Ink) (k : ℕ) → falls ink ≡ true → source ink k ≤ k
-source_falls Blank k e = omega arith
-source_falls (BlankRow r) k e = omega arith
-source_falls (Write p v) k e = omega arith
-source_falls (ShiftLeft r) k e = absurd (true≢false (sym e))
-source_falls (ShiftRight r) k e = grind (arith, nat_tests)
-source_falls ScrollUp k e = absurd (true≢false (sym e))
-source_falls ScrollDown k e = grind (arith, nat_tests)
+source_rises : (ink : Ink) (k : ℕ) → k < 40 → source ink k < 40 → rises ink ≡ true → line (source ink k) ≡ line k → column (source ink k) < column k → ⊥
+source_rises Blank k m o e l b = omega arith
+source_rises (BlankRow r) k m o e l b = omega arith
+source_rises (Write p v) k m o e l b = omega arith
+source_rises (ShiftLeft r) k m o e l b = grind (arith, nat_tests)
+source_rises (ShiftRight r) k m o e l b = true≢false (sym e)
+source_rises ScrollUp k m o e l b = grind (arith, nat_tests)
+source_rises ScrollDown k m o e l b = grind (arith, nat_tests)
+
+source_falls : (ink : Ink) (k : ℕ) → k < 40 → source ink k < 40 → falls ink ≡ true → line (source ink k) ≡ line k → column k < column (source ink k) → ⊥
+source_falls Blank k m o e l b = omega arith
+source_falls (BlankRow r) k m o e l b = omega arith
+source_falls (Write p v) k m o e l b = omega arith
+source_falls (ShiftLeft r) k m o e l b = true≢false (sym e)
+source_falls (ShiftRight r) k m o e l b = grind (arith, nat_tests)
+source_falls ScrollUp k m o e l b = grind (arith, nat_tests)
+source_falls ScrollDown k m o e l b = grind (arith, nat_tests)
 
 -- the new cell rests on the place and its source alone
 cell_near : (ink : Ink) (a : Area) (g h : List ℕ) (k : ℕ) → get_or g k 0 ≡ get_or h k 0 → get_or g (source ink k) 0 ≡ get_or h (source ink k) 0 →
@@ -159,56 +60,200 @@ cell_near ink a g h k here there = go ink there
     go ScrollUp e = seen_at a g h (column k) (line k + 1) (λ _. e)
     go ScrollDown e = seen_at a g h (column k) (line k - 1) (λ _. e)
 
-drawn_near : (s : Stroke) (g h : List ℕ) (k : ℕ) → k < length g → k < length h → get_or g k 0 ≡ get_or h k 0 → get_or g (source s.ink k) 0 ≡ get_or h (source s.ink k) 0 →
-    get_or (drawn s g) k 0 ≡ get_or (drawn s h) k 0
-drawn_near s g h k l m here there =
+-- one position
+
+stepped-length : (s : Stroke) (x y : ℕ) (g : List ℕ) → length (stepped s x y g) ≡ length g
+stepped-length s x y g = go (inside s.area x y)
+  where
+    go : (b : Bool) → length (cond b (set g (place x y) (inked s.ink (seen s.area g) x y)) g) ≡ length g
+    go true = length-set g (place x y) (inked s.ink (seen s.area g) x y)
+    go false = refl
+
+stepped_here : (s : Stroke) (x y : ℕ) (g : List ℕ) (k : ℕ) → k < length g → within s.area k ≡ true → column k ≡ x → line k ≡ y → get_or (stepped s x y g) k 0 ≡ cell_at s g k
+stepped_here s x y g k l w p q =
+    (λ i. get_or (stepped s (sym p i) (sym q i) g) k 0)
+    ∙ ap (λ c. get_or c k 0) (cond-true (within s.area k) (set g (place (column k) (line k)) (cell_at s g k)) g w)
+    ∙ ap (λ j. get_or (set g j (cell_at s g k)) k 0) (place_column k)
+    ∙ get_or-set_same g k (cell_at s g k) 0 l
+
+stepped_other : (s : Stroke) (x y : ℕ) (g : List ℕ) (k : ℕ) → (within s.area k ≡ true → column k ≡ x → line k ≡ y → ⊥) → get_or (stepped s x y g) k 0 ≡ get_or g k 0
+stepped_other s x y g k n =
     ⊎_elim
-    (λ e. drawn_in s g k l e ∙ cell_near s.ink s.area g h k here there ∙ sym (drawn_in s h k m e))
-    (λ e. drawn_out s g k e ∙ here ∙ sym (drawn_out s h k e))
-    (cases_Bool (within s.area k))
+    (λ h.
+    let w = (and_parts (holds whole x y) (holds s.area x y) h).0 in
+    ap (λ c. get_or c k 0) (cond-true (inside s.area x y) (set g (place x y) (inked s.ink (seen s.area g) x y)) g h)
+    ∙ get_or-set_other g (place x y) k (inked s.ink (seen s.area g) x y) 0
+    (λ q. n (ap (within s.area) q ∙ inside_within s.area x y h) (ap column q ∙ column_place x y w) (ap line q ∙ line_place x y w)))
+    (λ h. ap (λ c. get_or c k 0) (cond-false (inside s.area x y) (set g (place x y) (inked s.ink (seen s.area g) x y)) g h))
+    (cases_Bool (inside s.area x y))
 
--- below i as in front, from i on as in back
-pub record Joined (front back g : List ℕ) (i : ℕ) : Type 0 where
-  pub below : (j : ℕ) → j < i → get_or g j 0 ≡ get_or front j 0
-  pub above : (j : ℕ) → i ≤ j → get_or g j 0 ≡ get_or back j 0
+-- one row, column after column
 
-module _ (s : Stroke) (old : List ℕ) (forty : length old ≡ 40) where
-  pub rise_none : Joined (drawn s old) old old 0
-  rise_none = record { below = λ j h. absurd (omega arith); above = λ j h. refl }
+or_right : (a : Bool) → (a || true) ≡ true
+or_right true = refl
+or_right false = refl
 
-  pub rise_more : (g h : List ℕ) (i : ℕ) → rises s.ink ≡ true → length g ≡ 40 → i < 40 → Joined (drawn s old) old g i → h ≡ stepped s i g → Joined (drawn s old) old h (i + 1)
-  rise_more g h i r l b inv e =
-      record {
-        below = λ j lt. ap (λ c. get_or c j 0) e ∙ below j lt (cases_eq j i);
-        above = λ j le. ap (λ c. get_or c j 0) e ∙ stepped_other s i g j (λ q. omega arith) ∙ inv.above j (omega arith);
-      }
+or_else : (a b : Bool) → (a || b) ≡ true → b ≡ false → a ≡ true
+or_else true b e f = refl
+or_else false b e f = absurd (true≢false (sym e ∙ f))
+
+columns_of : (a : Area) (k : ℕ) → within a k ≡ true → (a.x1 ≤ column k) × (column k ≤ a.x2) × (1 ≤ column k) × (column k ≤ 20)
+columns_of a k h =
+    let w = and_parts (holds whole (column k) (line k)) (holds a (column k) (line k)) h in
+    let p = and_parts (leb a.x1 (column k)) (leb (column k) a.x2 && (leb a.y1 (line k) && leb (line k) a.y2)) w.1 in
+    let q = and_parts (leb (column k) a.x2) (leb a.y1 (line k) && leb (line k) a.y2) p.1 in
+    let o = on_glass (column k) (line k) w.0 in
+    (leb-true a.x1 (column k) p.0, leb-true (column k) a.x2 q.0, o.0, o.1)
+
+-- some columns of the row are drawn, and the others are as they were
+pub record Partly (s : Stroke) (r : ℕ) (past : ℕ → Bool) (old g : List ℕ) : Type 0 where
+  pub long : length g ≡ length old
+  pub done : (k : ℕ) → k < length old → within s.area k ≡ true → line k ≡ r → past (column k) ≡ true → get_or g k 0 ≡ cell_at s old k
+  pub left : (k : ℕ) → (within s.area k ≡ true → line k ≡ r → past (column k) ≡ true → ⊥) → get_or g k 0 ≡ get_or old k 0
+
+module _ (s : Stroke) (r : ℕ) (old : List ℕ) where
+  partly_none : (past : ℕ → Bool) → ((k : ℕ) → within s.area k ≡ true → past (column k) ≡ true → ⊥) → Partly s r past old old
+  partly_none past n = record { long = refl; done = λ k l w e d. absurd (n k w d); left = λ k h. refl }
+
+  partly_all : (past : ℕ → Bool) (g : List ℕ) → ((k : ℕ) → within s.area k ≡ true → past (column k) ≡ true) → Partly s r past old g → Rowed s r old g
+  partly_all past g all inv =
+      record { long = inv.long; done = λ k l w e. inv.done k l w e (all k w); left = λ k n. inv.left k (λ w e d. n w e) }
+
+  -- one column more, whose cells come from no column that is drawn
+  partly_more : (past next : ℕ → Bool) (g h : List ℕ) (x : ℕ) → Partly s r past old g → h ≡ stepped s x r g → past x ≡ false →
+      ((c : ℕ) → next c ≡ (past c || eqb c x)) → ((k : ℕ) → k < length old → source s.ink k < length old → column k ≡ x → line (source s.ink k) ≡ line k → past (column (source s.ink k)) ≡ true → ⊥) →
+      Partly s r next old h
+  partly_more past next g h x inv e fresh is from = record { long = ap length e ∙ stepped-length s x r g ∙ inv.long; done = done; left = left }
     where
-      below : (j : ℕ) → j < i + 1 → (j ≡ i) ⊎ (j ≡ i → ⊥) → get_or (stepped s i g) j 0 ≡ get_or (drawn s old) j 0
-      below j lt (inl q) =
-          ap (λ k. get_or (stepped s i g) k 0) q ∙ stepped_here s i g b (omega arith)
-          ∙ drawn_near s g old i (omega arith) (omega arith) (inv.above i (omega arith)) (inv.above (source s.ink i) (source_rises s.ink i r))
-          ∙ ap (λ k. get_or (drawn s old) k 0) (sym q)
-      below j lt (inr n) = stepped_other s i g j n ∙ inv.below j (omega arith)
+      own : (k : ℕ) → column k ≡ x → get_or g k 0 ≡ get_or old k 0
+      own k q = inv.left k (λ w l d. true≢false (sym d ∙ ap past q ∙ fresh))
 
-  pub rise_all : (g : List ℕ) (i : ℕ) → length g ≡ 40 → 40 ≤ i → Joined (drawn s old) old g i → g ≡ drawn s old
-  rise_all g i l b inv = ext_get_or 0 g (drawn s old) (l ∙ sym forty ∙ sym (drawn-length s old)) (λ j h. inv.below j (omega arith))
+      there : (k : ℕ) → k < length old → column k ≡ x → line k ≡ r → get_or g (source s.ink k) 0 ≡ get_or old (source s.ink k) 0
+      there k b q l =
+          ⊎_elim
+          (λ o. inv.left (source s.ink k) (λ w m d. from k b o q (m ∙ sym l) d))
+          (λ o. get_or_past g (source s.ink k) 0 (omega (arith, inv.long)) ∙ sym (get_or_past old (source s.ink k) 0 o))
+          (cases_lt (source s.ink k) (length old))
 
-  pub fall_none : Joined old (drawn s old) old 40
-  fall_none = record { below = λ j h. refl; above = λ j h. get_or_past old j 0 (omega arith) ∙ sym (drawn_past s old j (omega arith)) }
+      here : (k : ℕ) → column k ≡ x → next (column k) ≡ true
+      here k q = is (column k) ∙ ap (λ b. past (column k) || b) (eq-eqb (column k) x q) ∙ or_right (past (column k))
 
-  pub fall_more : (g h : List ℕ) (i : ℕ) → falls s.ink ≡ true → length g ≡ 40 → 0 < i → i ≤ 40 → Joined old (drawn s old) g i → h ≡ stepped s (i - 1) g → Joined old (drawn s old) h (i - 1)
-  fall_more g h i f l p b inv e =
-      record {
-        below = λ j lt. ap (λ c. get_or c j 0) e ∙ stepped_other s (i - 1) g j (λ q. omega arith) ∙ inv.below j (omega arith);
-        above = λ j le. ap (λ c. get_or c j 0) e ∙ above j le (cases_eq j (i - 1));
-      }
-    where
-      above : (j : ℕ) → i - 1 ≤ j → (j ≡ i - 1) ⊎ (j ≡ i - 1 → ⊥) → get_or (stepped s (i - 1) g) j 0 ≡ get_or (drawn s old) j 0
-      above j le (inl q) =
-          ap (λ k. get_or (stepped s (i - 1) g) k 0) q ∙ stepped_here s (i - 1) g (omega arith) (omega arith)
-          ∙ drawn_near s g old (i - 1) (omega arith) (omega arith) (inv.below (i - 1) (omega arith)) (inv.below (source s.ink (i - 1)) (omega (arith, source_falls s.ink (i - 1) f)))
-          ∙ ap (λ k. get_or (drawn s old) k 0) (sym q)
-      above j le (inr n) = stepped_other s (i - 1) g j n ∙ inv.above j (omega arith)
+      before : (k : ℕ) → past (column k) ≡ true → next (column k) ≡ true
+      before k d = is (column k) ∙ ap (λ b. b || eqb (column k) x) d
 
-  pub fall_all : (g : List ℕ) (i : ℕ) → length g ≡ 40 → i ≤ 0 → Joined old (drawn s old) g i → g ≡ drawn s old
-  fall_all g i l b inv = ext_get_or 0 g (drawn s old) (l ∙ sym forty ∙ sym (drawn-length s old)) (λ j h. inv.above j (omega arith))
+      done : (k : ℕ) → k < length old → within s.area k ≡ true → line k ≡ r → next (column k) ≡ true → get_or h k 0 ≡ cell_at s old k
+      done k b w l d = go (cases_eq (column k) x)
+        where
+          go : (column k ≡ x) ⊎ (column k ≡ x → ⊥) → get_or h k 0 ≡ cell_at s old k
+          go (inl q) =
+              ap (λ c. get_or c k 0) e ∙ stepped_here s x r g k (omega (arith, inv.long)) w q l ∙ cell_near s.ink s.area g old k (own k q) (there k b q l)
+          go (inr n) =
+              let p = or_else (past (column k)) (eqb (column k) x) (sym (is (column k)) ∙ d) (ne_eqb (column k) x n) in
+              ap (λ c. get_or c k 0) e ∙ stepped_other s x r g k (λ _ q _. n q) ∙ inv.done k b w l p
+
+      left : (k : ℕ) → (within s.area k ≡ true → line k ≡ r → next (column k) ≡ true → ⊥) → get_or h k 0 ≡ get_or old k 0
+      left k n = ap (λ c. get_or c k 0) e ∙ stepped_other s x r g k (λ w q l. n w l (here k q)) ∙ inv.left k (λ w l d. n w l (before k d))
+
+  -- from left to right: the columns below x are drawn
+
+  pub right_none : (x : ℕ) → x ≡ max s.area.x1 1 → Partly s r (λ c. ltb c x) old old
+  right_none x e = partly_none (λ c. ltb c x) (λ k w d. let o = columns_of s.area k w in grind (arith, nat_tests))
+
+  pub right_more : (g h : List ℕ) (x : ℕ) → length old ≡ 40 → rises s.ink ≡ true → Partly s r (λ c. ltb c x) old g → h ≡ stepped s x r g → Partly s r (λ c. ltb c (x + 1)) old h
+  right_more g h x forty up inv e =
+      partly_more (λ c. ltb c x) (λ c. ltb c (x + 1)) g h x inv e (grind (arith, nat_tests)) (λ c. grind (arith, nat_tests))
+      (λ k b o q l d. source_rises s.ink k (omega arith) (omega arith) up l (grind (arith, nat_tests)))
+
+  pub right_all : (g : List ℕ) (x : ℕ) → min s.area.x2 20 + 1 ≤ x → Partly s r (λ c. ltb c x) old g → Rowed s r old g
+  right_all g x b inv = partly_all (λ c. ltb c x) g (λ k w. let o = columns_of s.area k w in grind (arith, nat_tests)) inv
+
+  -- from right to left: the columns from x on are drawn
+
+  pub left_none : (x : ℕ) → x ≡ min s.area.x2 20 + 1 → Partly s r (λ c. leb x c) old old
+  left_none x e = partly_none (λ c. leb x c) (λ k w d. let o = columns_of s.area k w in grind (arith, nat_tests))
+
+  pub left_more : (g h : List ℕ) (x : ℕ) → length old ≡ 40 → falls s.ink ≡ true → 0 < x → Partly s r (λ c. leb x c) old g → h ≡ stepped s (x - 1) r g → Partly s r (λ c. leb (x - 1) c) old h
+  left_more g h x forty down b inv e =
+      partly_more (λ c. leb x c) (λ c. leb (x - 1) c) g h (x - 1) inv e (grind (arith, nat_tests)) (λ c. grind (arith, nat_tests))
+      (λ k b o q l d. source_falls s.ink k (omega arith) (omega arith) down l (grind (arith, nat_tests)))
+
+  pub left_all : (g : List ℕ) (x : ℕ) → x ≤ max s.area.x1 1 → Partly s r (λ c. leb x c) old g → Rowed s r old g
+  left_all g x b inv = partly_all (λ c. leb x c) g (λ k w. let o = columns_of s.area k w in grind (arith, nat_tests)) inv
+
+-- the stroke from its rows
+
+alike : (s : Stroke) (g h : List ℕ) → length h ≡ length g → ((k : ℕ) → k < length g → within s.area k ≡ true → get_or h k 0 ≡ cell_at s g k) →
+    ((k : ℕ) → k < length g → within s.area k ≡ false → get_or h k 0 ≡ get_or g k 0) → h ≡ drawn s g
+alike s g h l inner outer =
+    ext_get_or 0 h (drawn s g) (l ∙ sym (drawn-length s g)) (λ k b. go k (omega (arith, l)))
+  where
+    go : (k : ℕ) → k < length g → get_or h k 0 ≡ get_or (drawn s g) k 0
+    go k b = ⊎_elim (λ w. inner k b w ∙ sym (drawn_in s g k b w)) (λ w. outer k b w ∙ sym (drawn_out s g k w)) (cases_Bool (within s.area k))
+
+-- both rows, of which the second takes nothing from the first
+pub both_rows : (s : Stroke) (a b : ℕ) (g h c : List ℕ) → length g ≡ 40 → Rowed s a g h → Rowed s b h c → (a ≡ b → ⊥) → ((k : ℕ) → (line k ≡ a) ⊎ (line k ≡ b)) →
+    ((k : ℕ) → line k ≡ b → line (source s.ink k) ≡ a → ⊥) → c ≡ drawn s g
+both_rows s a b g h c forty one two apart lines free = alike s g c (two.long ∙ one.long) (λ k l w. inner k l w (lines k)) outer
+  where
+    inner : (k : ℕ) → k < length g → within s.area k ≡ true → (line k ≡ a) ⊎ (line k ≡ b) → get_or c k 0 ≡ cell_at s g k
+    inner k l w (inl e) = two.left k (λ _ f. apart (sym e ∙ f)) ∙ one.done k l w e
+    inner k l w (inr e) =
+        two.done k (omega (arith, one.long)) w e
+        ∙ cell_near s.ink s.area h g k (one.left k (λ _ f. apart (sym f ∙ e))) (one.left (source s.ink k) (λ _ f. free k e f))
+
+    outer : (k : ℕ) → k < length g → within s.area k ≡ false → get_or c k 0 ≡ get_or g k 0
+    outer k l f = two.left k (λ w _. true≢false (sym w ∙ f)) ∙ one.left k (λ w _. true≢false (sym w ∙ f))
+
+-- one row, where the ink leaves every other row
+pub one_row : (s : Stroke) (r : ℕ) (g h : List ℕ) → Rowed s r g h → ((look : ℕ → ℕ → ℕ) (x y : ℕ) → (y ≡ r → ⊥) → inked s.ink look x y ≡ look x y) → h ≡ drawn s g
+one_row s r g h one else = alike s g h one.long (λ k l w. inner k l w (cases_eq (line k) r)) (λ k l f. one.left k (λ w _. true≢false (sym w ∙ f)))
+  where
+    inner : (k : ℕ) → k < length g → within s.area k ≡ true → (line k ≡ r) ⊎ (line k ≡ r → ⊥) → get_or h k 0 ≡ cell_at s g k
+    inner k l w (inl e) = one.done k l w e
+    inner k l w (inr n) = one.left k (λ _. n) ∙ sym (else (seen s.area g) (column k) (line k) n ∙ seen_here s.area g k w)
+
+-- one position, where the ink leaves every other one
+pub one_step : (s : Stroke) (x y : ℕ) (g h : List ℕ) → h ≡ stepped s x y g → ((look : ℕ → ℕ → ℕ) (u v : ℕ) → (u ≡ x → v ≡ y → ⊥) → inked s.ink look u v ≡ look u v) → h ≡ drawn s g
+one_step s x y g h e else = e ∙ alike s g (stepped s x y g) (stepped-length s x y g) inner (λ k l f. stepped_other s x y g k (λ w _ _. true≢false (sym w ∙ f)))
+  where
+    apart : (k : ℕ) → k < length g → within s.area k ≡ true → (column k ≡ x → line k ≡ y → ⊥) → get_or (stepped s x y g) k 0 ≡ cell_at s g k
+    apart k l w n = stepped_other s x y g k (λ _. n) ∙ sym (else (seen s.area g) (column k) (line k) n ∙ seen_here s.area g k w)
+
+    inner : (k : ℕ) → k < length g → within s.area k ≡ true → get_or (stepped s x y g) k 0 ≡ cell_at s g k
+    inner k l w =
+        ⊎_elim
+        (λ p. ⊎_elim (λ q. stepped_here s x y g k l w p q) (λ n. apart k l w (λ _. n)) (cases_eq (line k) y))
+        (λ n. apart k l w (λ p _. n p))
+        (cases_eq (column k) x)
+
+-- inks of one row and of one position leave what is seen elsewhere
+
+pub blank_else : (r : ℕ) (look : ℕ → ℕ → ℕ) (x y : ℕ) → (y ≡ r → ⊥) → inked (BlankRow r) look x y ≡ look x y
+blank_else r look x y n = cond-false (eqb y r) blank (look x y) (ne_eqb y r n)
+
+pub left_else : (r : ℕ) (look : ℕ → ℕ → ℕ) (x y : ℕ) → (y ≡ r → ⊥) → inked (ShiftLeft r) look x y ≡ look x y
+left_else r look x y n = cond-false (eqb y r) (look (x + 1) y) (look x y) (ne_eqb y r n)
+
+pub right_else : (r : ℕ) (look : ℕ → ℕ → ℕ) (x y : ℕ) → (y ≡ r → ⊥) → inked (ShiftRight r) look x y ≡ look x y
+right_else r look x y n = cond-false (eqb y r) (look (x - 1) y) (look x y) (ne_eqb y r n)
+
+pub write_else : (p : Position) (v : ℕ) (look : ℕ → ℕ → ℕ) (x y : ℕ) → (x ≡ p.column → y ≡ p.row → ⊥) → inked (Write p v) look x y ≡ look x y
+write_else p v look x y n = cond-false (eqb x p.column && eqb y p.row) v (look x y) (go (cases_eq x p.column))
+  where
+    go : (x ≡ p.column) ⊎ (x ≡ p.column → ⊥) → (eqb x p.column && eqb y p.row) ≡ false
+    go (inl e) = and_right (eqb x p.column) (eqb y p.row) (ne_eqb y p.row (n e))
+    go (inr f) = and_left (eqb x p.column) (eqb y p.row) (ne_eqb x p.column f)
+
+-- which row, and that the row which is drawn second takes nothing from the first
+
+pub lines : (k : ℕ) → (line k ≡ 1) ⊎ (line k ≡ 2)
+lines k = ⊎_elim (λ b. inl (grind (arith, nat_tests))) (λ b. inr (grind (arith, nat_tests))) (cases_lt k 20)
+
+pub blank_free : (k : ℕ) → line k ≡ 2 → line (source Blank k) ≡ 1 → ⊥
+blank_free k e f = omega arith
+
+pub up_free : (k : ℕ) → line k ≡ 2 → line (source ScrollUp k) ≡ 1 → ⊥
+up_free k e f = grind (arith, nat_tests)
+
+pub down_free : (k : ℕ) → line k ≡ 1 → line (source ScrollDown k) ≡ 2 → ⊥
+down_free k e f = grind (arith, nat_tests)

@@ -1,43 +1,15 @@
-// Strokes on any panel.
+// Strokes on any panel, row by row. (The hints on inlining change no proof; with them each ink has a loop compiled for it alone.)
 ghost use Rattle.std.specs.Prelude.{◌≡◌, ◌<◌, ◌≤◌, true};
-ghost use Rattle.glass.specs.Places.{column, line};
 ghost use Rattle.glass.specs.Drawn.{seen, inked, drawn};
-ghost use Rattle.panel.specs.Laws.{Drew};
-ghost use Rattle.panel.specs.Steps.{touches, rises, falls, Only, stepped, written};
+ghost use Rattle.panel.specs.Laws.{Drew, Reached};
+ghost use Rattle.panel.specs.Steps.{rises, falls, stepped, Rowed, written};
 
 use crate::panel::Panel;
-use glass::area::{Area, COLUMNS, PLACES, Position};
+use glass::area::{Area, PLACES, Position, WHOLE};
 use glass::stroke::{BLANK, Ink, Stroke};
 
-fn position(place: usize) -> Position
-    requires { place < 40 }
-    ensures { result ≡ record { column = column place; row = line place } }
-{
-    if place < COLUMNS {
-        Position {
-            column: place as u8 + 1,
-            row: 1,
-        }
-    } else {
-        Position {
-            column: place as u8 - 19,
-            row: 2,
-        }
-    }
-}
-
-// Whether the ink has a say at a position: elsewhere no cell is put.
-fn touches(ink: Ink, at: Position) -> bool
-    ensures { result ≡ touches ink at.column at.row }
-{
-    match ink {
-        Ink::Blank | Ink::ScrollUp | Ink::ScrollDown => true,
-        Ink::BlankRow { row } | Ink::ShiftLeft { row } | Ink::ShiftRight { row } => at.row == row,
-        Ink::Write { at: only, .. } => at == only,
-    }
-}
-
 // What is seen through an area: its cells, and blanks outside it.
+#[inline(always)]
 fn seen<P: Panel>(panel: &P, area: Area, at: Position) -> u64
     ensures { result ≡ seen area (P.make.cells panel.now) at.column at.row }
 {
@@ -50,6 +22,7 @@ fn seen<P: Panel>(panel: &P, area: Area, at: Position) -> u64
 }
 
 // What the stroke leaves at a position.
+#[inline(always)]
 fn inked<P: Panel>(panel: &P, stroke: Stroke, at: Position) -> u64
     requires { (1 ≤ at.column) × ((at.column < 255) × ((1 ≤ at.row) × (at.row < 255))) }
     ensures { result ≡ inked stroke.ink (seen stroke.area (P.make.cells panel.now)) at.column at.row }
@@ -80,51 +53,50 @@ fn inked<P: Panel>(panel: &P, stroke: Stroke, at: Position) -> u64
     seen(panel, stroke.area, from)
 }
 
-// Draws the stroke at one place.
-fn step<P: Panel>(panel: &mut P, stroke: Stroke, place: usize)
-    requires { place < 40 }
-    ensures { Drew P.make panel.old (stepped stroke place (P.make.cells panel.old)) panel.new }
+// Draws the stroke at one position.
+#[inline(always)]
+fn step<P: Panel>(panel: &mut P, stroke: Stroke, at: Position)
+    ensures { Drew P.make panel.old (stepped stroke at.column at.row (P.make.cells panel.old)) panel.new }
 {
-    let at = position(place);
-    if stroke.area.holds(at) && touches(stroke.ink, at) {
+    if !stroke.area.holds(at) {
+        return;
+    }
+    if let Some(place) = at.place() {
         let cell = inked(panel, stroke, at);
         // Never refused: the place is on the glass.
         let _ = panel.put(place, cell);
     }
 }
 
-// Draws the places in rising order. (The order is the point, and places are the subject: one loop over either order would
-// take a flag, or an iterator whose order its contract has to name.)
-fn draw_up<P: Panel>(panel: &mut P, stroke: Stroke)
+// Draws one row of the stroke, from left to right.
+#[inline(always)]
+fn row_rightward<P: Panel>(panel: &mut P, stroke: Stroke, row: u8)
     requires { rises stroke.ink ≡ true }
-    ensures { Drew P.make panel.old (drawn stroke (P.make.cells panel.old)) panel.new }
+    ensures cells { Rowed stroke row (P.make.cells panel.old) (P.make.cells panel.new) }
+    ensures reached { Reached P.make.puts panel.old panel.new }
 {
-    for place in 0..PLACES {
-        step(panel, stroke, place);
+    let Area { x1, x2, .. } = stroke.area;
+    for column in x1.max(WHOLE.x1)..x2.min(WHOLE.x2) + 1 {
+        step(panel, stroke, Position { column, row });
     }
 }
 
-// Draws the places in falling order.
-fn draw_down<P: Panel>(panel: &mut P, stroke: Stroke)
+// Draws one row of the stroke, from right to left. (The order is the point: one loop over either order would take a flag, or
+// an iterator whose order its contract has to name.)
+#[inline(always)]
+fn row_leftward<P: Panel>(panel: &mut P, stroke: Stroke, row: u8)
     requires { falls stroke.ink ≡ true }
-    ensures { Drew P.make panel.old (drawn stroke (P.make.cells panel.old)) panel.new }
+    ensures cells { Rowed stroke row (P.make.cells panel.old) (P.make.cells panel.new) }
+    ensures reached { Reached P.make.puts panel.old panel.new }
 {
-    for place in (0..PLACES).rev() {
-        step(panel, stroke, place);
-    }
-}
-
-// Draws a stroke that touches no more than one place: no loop, since most strokes are such.
-fn draw_at<P: Panel>(panel: &mut P, stroke: Stroke, at: Position)
-    requires { Only stroke.ink at.column at.row }
-    ensures { Drew P.make panel.old (drawn stroke (P.make.cells panel.old)) panel.new }
-{
-    if let Some(place) = at.place() {
-        step(panel, stroke, place);
+    let Area { x1, x2, .. } = stroke.area;
+    for column in (x1.max(WHOLE.x1)..x2.min(WHOLE.x2) + 1).rev() {
+        step(panel, stroke, Position { column, row });
     }
 }
 
 // Writes one cell, with nothing to hand over but numbers: the stroke `Write` in any area that holds the position.
+#[inline(always)]
 pub fn write_cell<P: Panel>(panel: &mut P, at: Position, cell: u64)
     ensures { Drew P.make panel.old (written at.column at.row cell (P.make.cells panel.old)) panel.new }
 {
@@ -144,15 +116,26 @@ pub fn cells<P: Panel>(panel: &P) -> [u64; PLACES]
     all
 }
 
-// By puts alone, so that what waited to be painted still waits.
+// By puts alone, so that what waited to be painted still waits. (An arm for each ink: the loop in it then asks for no ink again.)
 pub fn draw<P: Panel>(panel: &mut P, stroke: Stroke)
     ensures { Drew P.make panel.old (drawn stroke (P.make.cells panel.old)) panel.new }
 {
     match stroke.ink {
-        Ink::Write { at, .. } => draw_at(panel, stroke, at),
-        Ink::ShiftRight { .. } | Ink::ScrollDown => draw_down(panel, stroke),
-        Ink::Blank | Ink::BlankRow { .. } | Ink::ShiftLeft { .. } | Ink::ScrollUp => draw_up(
-            panel, stroke,
-        ),
+        Ink::Write { at, .. } => step(panel, stroke, at),
+        Ink::BlankRow { row } => row_rightward(panel, stroke, row),
+        Ink::ShiftLeft { row } => row_rightward(panel, stroke, row),
+        Ink::ShiftRight { row } => row_leftward(panel, stroke, row),
+        Ink::Blank => {
+            row_rightward(panel, stroke, WHOLE.y1);
+            row_rightward(panel, stroke, WHOLE.y2);
+        }
+        Ink::ScrollUp => {
+            row_rightward(panel, stroke, WHOLE.y1);
+            row_rightward(panel, stroke, WHOLE.y2);
+        }
+        Ink::ScrollDown => {
+            row_rightward(panel, stroke, WHOLE.y2);
+            row_rightward(panel, stroke, WHOLE.y1);
+        }
     }
 }

@@ -1,0 +1,9 @@
+use Rattle.std.proofs.Common.{ltb}
+use Rattle.panel.specs.Laws.{Reached}
+use Rattle.panel.proofs.Steps.{Partly}
+use Rattle.panel.proofs.draw.row_rightward.Given as goal
+
+abbrev pub invariant-loop-column : goal.invariant-loop-column
+invariant-loop-column g l =
+    Partly l.stroke l.row (λ c. ltb c l.column) (g.P.Panel.make.cells l.initial.panel) (g.P.Panel.make.cells l.panel)
+    × Reached g.P.Panel.make.puts l.initial.panel l.panel
