@@ -40,8 +40,8 @@ fn run(rt: &HostRuntime) -> anyhow::Result<()> {
     let mut faults = BoundedList::over(&mut fault_places);
     let mut change_places = [NO_CHANGE; 16];
     let panel = StripPanel::over(&mut change_places);
+    let mut screen = cells(&panel); // blank, as the new panel is
     let mut display = Display::switch_on(settings, panel);
-    let mut screen = [0; 40];
     // As it comes from the till: the first piece ends inside a command, and the third holds a bad one.
     for piece in [
         b"\x0cCOFFEE\x1f$\x11".as_slice(),
