@@ -9,7 +9,7 @@ use crate::listener::{Item, Listener, Speaker, Voice};
 use reader::words::{ESC, Mark, Outcome, ReadFault, Reading, Step, US};
 
 // The macro speaks while this stands; the host speaks again once it is let go.
-pub struct Speaking<'a> {
+struct Speaking<'a> {
     speaker: &'a mut Speaker,
 }
 
