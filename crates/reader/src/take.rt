@@ -1,6 +1,7 @@
 // What one byte does to a reading: the transition of the reader.
 ghost use Rattle.std.specs.Prelude.{◌≡◌};
 ghost use Rattle.reader.specs.Steps.{at_rest, after_esc, after_us, step};
+ghost use Rattle.reader.specs.Ends.{EndedRests};
 ghost use Rattle.reader.specs.Cancels.{six, SixCancels};
 
 use crate::words::{Command, ESC, Mark, Mode, Outcome, ReadFault, Reading, Step, US};
@@ -84,8 +85,10 @@ fn after_us(byte: u8) -> Step
 }
 
 impl Reading {
+    #[tactic(auto, using(crate::proofs::Stepped::ended_rests))]
     pub fn take(self, byte: u8) -> Step
-        ensures { result ≡ step self byte }
+        ensures step { result ≡ step self byte }
+        ensures rests { EndedRests }
     {
         match self {
             Reading::Rest => at_rest(byte),

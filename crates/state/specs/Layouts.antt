@@ -1,5 +1,5 @@
 -- Windows and cursor: what defining, cancelling and turning leave.
-use Rattle.std.specs.Prelude.{◌≡◌, ℕ, ◌+◌, ◌-◌, cond, Some, None, Ok, Err, Option, Result, ◌==◌}
+use Rattle.std.specs.Prelude.{◌≡◌, ℕ, ◌+◌, ◌-◌, Bool, cond, Some, None, Ok, Err, Option, Result, ◌==◌}
 use Rattle.glass.specs.declared.area.Area.{Area}
 use Rattle.glass.specs.declared.area.Position.{Position}
 use Rattle.glass.specs.Places.{whole, lawful, holds}
@@ -97,8 +97,12 @@ defined None n a l =
 abbrev pub defining : Slot → Area → Layout → Turn
 defining n a l = cond (lawful a) (defined (at l.slots n) n a l) (leaves l)
 
--- column x and row y of the window, counted from its corner
+-- column x and row y, counted from the window's corner, lie inside it
+abbrev pub reaches : ℕ → ℕ → Layout → Bool
+reaches x y l = holds (here l) ((here l).x1 + x - 1) ((here l).y1 + y - 1)
+
+-- the cursor goes there; outside it is a fault
 abbrev pub going : ℕ → ℕ → Layout → Turn
 going x y l =
-    cond (holds (here l) ((here l).x1 + x - 1) ((here l).y1 + y - 1)) (leaves (at_spot l ((here l).x1 + x - 1) ((here l).y1 + y - 1)))
+    cond (reaches x y l) (leaves (at_spot l ((here l).x1 + x - 1) ((here l).y1 + y - 1)))
     (refuses OutsideWindow l)

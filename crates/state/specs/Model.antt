@@ -102,9 +102,13 @@ pub record Response : Type 0 where
   pub faults : List Fault
   pub carried : List Command
 
+-- a fault draws nothing
+abbrev pub strokes_in : Result Strokes DisplayFault → Strokes
+strokes_in (Ok s) = s
+strokes_in (Err f) = no_strokes
+
 abbrev pub drawn_by : Result Strokes DisplayFault → List Stroke
-drawn_by (Ok s) = strokes_of s
-drawn_by (Err f) = []
+drawn_by a = strokes_of (strokes_in a)
 
 -- a fault of the macro is carried whole inside a played one
 abbrev pub told : Voice → DisplayFault → Fault
@@ -151,6 +155,11 @@ before b c = kept b (ended c)
 abbrev pub ticked : Core → Core
 ticked c = with_tape (with_lamp c (lamp_ticked c.lamp)) (wound c.tape)
 
+-- what comes of the macro's byte, if one is due
+abbrev pub acted : Option ℕ → Core → Act
+acted None c = idle c
+acted (Some b) c = taken Macro b c
+
 abbrev pub played : Option ℕ → Core → Response
 played None c = record { core = c; strokes = []; faults = []; carried = [] }
 played (Some b) c = takes Macro b [] [] c
@@ -163,17 +172,26 @@ abbrev pub fault_of : Option Fault → List Fault
 fault_of None = []
 fault_of (Some f) = f ∷ []
 
--- a controller's reply to a host byte is the rules' response
+-- a controller's reply to a host byte is the rules' response, whole and part by part
 pub record Replies (b : ℕ) (c : Controller) (r : HostReply) (c' : Controller) : Type 0 where
   pub core : core_of c' ≡ (respond (byte b) (core_of c)).core
   pub strokes : one r.ending ++ strokes_of r.reply.strokes ≡ (respond (byte b) (core_of c)).strokes
   pub faults : fault_of r.overflow ++ fault_of r.reply.fault ≡ (respond (byte b) (core_of c)).faults
+  -- the stroke that ends a playback
+  pub ending : one r.ending ≡ ending (core_of c)
+  -- the fault of a recording that is too long
+  pub overflow : fault_of r.overflow ≡ overflows (ended (core_of c))
+  -- the strokes and the fault of the byte that is then read
+  pub drawn : r.reply.strokes ≡ strokes_in (taken Host b (before b (core_of c))).answer
+  pub fault : fault_of r.reply.fault ≡ reported Host (before b (core_of c)).selected (taken Host b (before b (core_of c))).answer
 
 -- and so is its reply to a tick
 pub record Moves (c : Controller) (r : Reply) (c' : Controller) : Type 0 where
   pub core : core_of c' ≡ (respond tick (core_of c)).core
   pub strokes : strokes_of r.strokes ≡ (respond tick (core_of c)).strokes
   pub fault : fault_of r.fault ≡ (respond tick (core_of c)).faults
+  -- the strokes of the macro's byte
+  pub drawn : r.strokes ≡ strokes_in (acted (due (core_of c).tape) (ticked (core_of c))).answer
 
 -- The display, with its glass.
 pub record State : Type 0 where

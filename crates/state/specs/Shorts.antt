@@ -1,5 +1,5 @@
 -- The short way of a host byte: of one that only goes on with a command, moves the cursor, or writes a character and nothing else.
-use Rattle.std.specs.Prelude.{◌≡◌, ℕ, Bool, true, false, not, ◌&&◌, List, [], ◌∷◌, is_some, Some, None, Ok, Option, nat_le, nat_lt}
+use Rattle.std.specs.Prelude.{◌≡◌, ℕ, Bool, true, false, not, ◌&&◌, ◌||◌, ◌==◌, List, [], ◌∷◌, is_some, Some, None, Ok, Option, nat_le, nat_lt}
 use Rattle.glass.specs.declared.stroke.Stroke.{Stroke}
 use Rattle.glass.specs.declared.stroke.Ink.TheVariants.{Write}
 use Rattle.glass.specs.Places.{inside}
@@ -9,11 +9,11 @@ use Rattle.reader.specs.declared.words.Mode.TheVariants.{Overwrite, Vertical, Ho
 use Rattle.reader.specs.declared.words.Reading.{Reading}
 use Rattle.reader.specs.declared.words.Reading.TheVariants.{Rest, AfterEsc, AfterUs, GoToX, GoToY, CursorN, BrightnessN, BlinkN, MarkedN, PlayN, PlayM, SelectN, SetN, TableN, UserN, ForgetN, WindowN, WindowS, WindowX1, WindowY1, WindowX2, WindowY2, DefineOne, DefineFirst, DefineLast, DefineLength, DefineColumn}
 use Rattle.reader.specs.declared.words.Command.TheVariants.{GoTo}
-use Rattle.reader.specs.Steps.{step, wait}
+use Rattle.reader.specs.Steps.{step, wait, within}
 use Rattle.state.specs.declared.listener.Voice.TheVariants.{Host}
 use Rattle.state.specs.declared.moves.Way.TheVariants as way
 use Rattle.state.specs.Cells.{built_in}
-use Rattle.state.specs.Layouts.{Layout, here, stepped, cursor_of}
+use Rattle.state.specs.Layouts.{Layout, here, reaches, stepped, cursor_of}
 use Rattle.state.specs.Reels.{is_playing, is_recording}
 use Rattle.state.specs.Core.{Core, window, with_reading, with_layout}
 use Rattle.state.specs.Effects.{stroke, effect, no_strokes}
@@ -33,35 +33,53 @@ quiet Horizontal l = false
 abbrev pub plain : Core → Bool
 plain c = not c.pen.user && quiet c.pen.mode c.layout
 
+-- The readings at which the short way takes bytes: at rest, after US, at the column and at the row of US $, and at the character
+-- of a mark; it takes none elsewhere.
+pub data Stage : Type 0 where
+  at_rest : Stage
+  after_us : Stage
+  at_column : Stage
+  at_row : ℕ → Stage
+  at_marked : Mark → Stage
+  elsewhere : Stage
+
+abbrev pub stage : Reading → Stage
+stage Rest = at_rest
+stage AfterUs = after_us
+stage GoToX = at_column
+stage (GoToY x) = at_row x
+stage (MarkedN m) = at_marked m
+stage AfterEsc = elsewhere
+stage CursorN = elsewhere
+stage BrightnessN = elsewhere
+stage BlinkN = elsewhere
+stage PlayN = elsewhere
+stage (PlayM n) = elsewhere
+stage SelectN = elsewhere
+stage SetN = elsewhere
+stage TableN = elsewhere
+stage UserN = elsewhere
+stage ForgetN = elsewhere
+stage WindowN = elsewhere
+stage (WindowS n) = elsewhere
+stage (WindowX1 n) = elsewhere
+stage (WindowY1 n x) = elsewhere
+stage (WindowX2 n x y) = elsewhere
+stage (WindowY2 n x y z) = elsewhere
+stage DefineOne = elsewhere
+stage DefineFirst = elsewhere
+stage (DefineLast s) = elsewhere
+stage (DefineLength s e) = elsewhere
+stage (DefineColumn s e n k bs) = elsewhere
+
 -- the mark, if any, of the character that the next byte is; none where it is no character
-abbrev pub awaited : Reading → Option (Option Mark)
-awaited Rest = Some None
-awaited AfterEsc = None
-awaited AfterUs = None
-awaited GoToX = None
-awaited (GoToY x) = None
-awaited CursorN = None
-awaited BrightnessN = None
-awaited BlinkN = None
-awaited (MarkedN m) = Some (Some m)
-awaited PlayN = None
-awaited (PlayM n) = None
-awaited SelectN = None
-awaited SetN = None
-awaited TableN = None
-awaited UserN = None
-awaited ForgetN = None
-awaited WindowN = None
-awaited (WindowS n) = None
-awaited (WindowX1 n) = None
-awaited (WindowY1 n x) = None
-awaited (WindowX2 n x y) = None
-awaited (WindowY2 n x y z) = None
-awaited DefineOne = None
-awaited DefineFirst = None
-awaited (DefineLast s) = None
-awaited (DefineLength s e) = None
-awaited (DefineColumn s e n k bs) = None
+abbrev pub awaited : Stage → Option (Option Mark)
+awaited at_rest = Some None
+awaited after_us = None
+awaited at_column = None
+awaited (at_row x) = None
+awaited (at_marked m) = Some (Some m)
+awaited elsewhere = None
 
 abbrev pub mark_in : Option (Option Mark) → Option Mark
 mark_in None = None
@@ -69,14 +87,36 @@ mark_in (Some o) = o
 
 -- the byte writes a character, and does nothing else
 abbrev pub typing : ℕ → Core → Bool
-typing b c = nat_le 0x20 b && (undisturbed c && (is_some (awaited c.reading) && plain c))
+typing b c = nat_le 0x20 b && (undisturbed c && (is_some (awaited (stage c.reading)) && plain c))
 
 -- the cell of that character, and the state after it
 abbrev pub typed_cell : ℕ → Core → ℕ
-typed_cell b c = built_in b c.pen (mark_in (awaited c.reading))
+typed_cell b c = built_in b c.pen (mark_in (awaited (stage c.reading)))
 
 abbrev pub typed_on : Core → Core
 typed_on c = with_layout (with_reading c Rest) (stepped way.Right c.pen.mode c.layout)
+
+-- with these bytes a frequent command only goes on: at rest ESC and US, after US $ and the point, and 1 to 20 as the column of US $
+abbrev pub goes_on : Stage → ℕ → Bool
+goes_on at_rest b = b == 0x1B || b == 0x1F
+goes_on after_us b = b == 0x24 || b == 0x2E
+goes_on at_column b = within 1 20 b
+goes_on (at_row x) b = false
+goes_on (at_marked m) b = false
+goes_on elsewhere b = false
+
+-- the byte is the row, 1 or 2, of a US $ that goes to a place of the window
+abbrev pub arrives : Stage → ℕ → Layout → Bool
+arrives at_rest b l = false
+arrives after_us b l = false
+arrives at_column b l = false
+arrives (at_row x) b l = within 1 2 b && reaches x b l
+arrives (at_marked m) b l = false
+arrives elsewhere b l = false
+
+-- on an undisturbed display the byte goes on with a frequent command, or ends a US $ inside the window
+abbrev pub passing : ℕ → Core → Bool
+passing b c = undisturbed c && (goes_on (stage c.reading) b || arrives (stage c.reading) b c.layout)
 
 -- the byte leaves this state, draws these strokes, and gives no fault
 pub record Shortly (b : ℕ) (c : Core) (ss : List Stroke) (c' : Core) : Type 0 where

@@ -1,8 +1,8 @@
 // What a byte and a tick do.
 ghost use Rattle.std.specs.Prelude.{◌≡◌};
 ghost use Rattle.state.specs.Core.{core_of};
-ghost use Rattle.state.specs.Effects.{one, strokes_of};
-ghost use Rattle.state.specs.Model.{obeyed, told, heeded, ended, ending, kept, overflows, reported, drawn_by, fault_of, Replies, Moves};
+ghost use Rattle.state.specs.Effects.{one};
+ghost use Rattle.state.specs.Model.{obeyed, told, heeded, ended, ending, kept, overflows, reported, strokes_in, fault_of, Replies, Moves};
 
 use crate::controller::carry::NO_STROKES;
 use crate::controller::{Controller, HostReply, Reply, Strokes};
@@ -34,7 +34,7 @@ fn told(voice: Voice, fault: DisplayFault) -> Fault
 
 // What is drawn and reported of an answer.
 fn reply(voice: Voice, selected: bool, answer: Result<Strokes, DisplayFault>) -> Reply
-    ensures strokes { strokes_of result.strokes ≡ drawn_by answer }
+    ensures strokes { result.strokes ≡ strokes_in answer }
     ensures fault { fault_of result.fault ≡ reported voice selected answer }
 {
     match answer {

@@ -2,7 +2,8 @@
 // for them no command and no strokes are handed from function to function, which would go through memory.
 ghost use Rattle.std.specs.Prelude.{◌≡◌, true};
 ghost use Rattle.state.specs.Core.{core_of};
-ghost use Rattle.state.specs.Shorts.{undisturbed, plain, typing, typed_cell, typed_on, Types, Passes, GoesTo};
+ghost use Rattle.state.specs.Layouts.{reaches};
+ghost use Rattle.state.specs.Shorts.{undisturbed, plain, typing, typed_cell, typed_on, passing, Types, Passes, GoesTo};
 
 use crate::cell::built_in;
 use crate::controller::Controller;
@@ -60,10 +61,11 @@ impl Controller {
         let _ = self.windows.step(Way::Right, self.pen.mode);
     }
 
-    // Takes a host byte with which a command goes on, or the cursor goes to a place of the window; any other byte is not taken.
-    // (Whether it was taken is all that there is to tell.)
+    // Takes a host byte with which a frequent command goes on, or the cursor goes to a place of the window. Any other byte is
+    // not taken, and still to be read.
     pub fn passes(&mut self, byte: u8) -> bool
-        ensures { Passes byte (core_of self.old) result (core_of self.new) }
+        ensures value { result ≡ passing byte (core_of self.old) }
+        ensures passes { Passes byte (core_of self.old) result (core_of self.new) }
     {
         if !self.is_undisturbed() {
             return false;
@@ -76,7 +78,8 @@ impl Controller {
 
     // Outside the window it is a fault, and not for the short way.
     fn goes_to(&mut self, x: u8, y: u8) -> bool
-        ensures { GoesTo x y (core_of self.old) result (core_of self.new) }
+        ensures value { result ≡ reaches x y (core_of self.old).layout }
+        ensures goes { GoesTo x y (core_of self.old) result (core_of self.new) }
     {
         if self.windows.go_to(x, y).is_err() {
             return false;

@@ -3,13 +3,13 @@ ghost use Rattle.std.specs.Prelude.{◌≡◌, is_some};
 ghost use Rattle.reader.specs.declared.words.Reading.TheVariants.{Rest};
 ghost use Rattle.state.specs.declared.listener.Voice.TheVariants.{Host, Macro};
 ghost use Rattle.state.specs.Heard.{Hears};
-ghost use Rattle.state.specs.Shorts.{GoesOn, awaited, mark_in};
+ghost use Rattle.state.specs.Shorts.{GoesOn, stage, awaited, goes_on, mark_in};
 
 use crate::listener::{Item, Listener, Speaker, Voice};
 use reader::words::{ESC, Mark, Outcome, ReadFault, Reading, Step, US};
 
 // The macro speaks while this stands; the host speaks again once it is let go.
-pub struct Speaking<'a> {
+struct Speaking<'a> {
     speaker: &'a mut Speaker,
 }
 
@@ -67,14 +67,14 @@ impl Listener {
 
     // Whether the next byte, from 20h on, is a character.
     pub(crate) fn awaits_character(&self) -> bool
-        ensures { result ≡ is_some (awaited self.now.reading) }
+        ensures { result ≡ is_some (awaited (stage self.now.reading)) }
     {
         matches!(self.reading, Reading::Rest | Reading::MarkedN { .. })
     }
 
     // The mark of the character that the next byte is.
     pub(crate) fn mark(&self) -> Option<Mark>
-        ensures { result ≡ mark_in (awaited self.now.reading) }
+        ensures { result ≡ mark_in (awaited (stage self.now.reading)) }
     {
         match self.reading {
             Reading::MarkedN { mark } => Some(mark),
@@ -84,7 +84,8 @@ impl Listener {
 
     // Reads a byte of the host with which a frequent command only goes on; any other is not read.
     pub(crate) fn goes_on(&mut self, byte: u8) -> bool
-        ensures { GoesOn self.old.reading byte result self.new.reading }
+        ensures value { result ≡ goes_on (stage self.old.reading) byte }
+        ensures reading { GoesOn self.old.reading byte result self.new.reading }
     {
         let next = match (self.reading, byte) {
             (Reading::Rest, ESC) => Reading::AfterEsc,

@@ -35,7 +35,7 @@ returns-then-not-passes g c =
     let b = c.args.byte in
     let k = core_of c.args.self.now.controller in
     let k' = core_of c.passes.new.self in
-    let same : k' ≡ k = subst (λ r. Passes b k r k') c.if-not-passes.true c.passes.ensures in
+    let same : k' ≡ k = subst (λ r. Passes b k r k') c.if-not-passes.true c.passes.ensures.passes in
     let whole = state_path (view g.P.Panel.make (record { panel = c.args.self.now.panel; controller = c.passes.new.self })) (view g.P.Panel.make c.args.self.now) same refl in
     record {
       state = c.take_long.ensures.state ∙ ap (λ s. next s (byte b)) whole;
@@ -48,7 +48,7 @@ returns-else-not-passes g c =
     let b = c.args.byte in
     let k = core_of c.args.self.now.controller in
     let k' = core_of c.passes.new.self in
-    let h : Shortly b k [] k' = subst (λ r. Passes b k r k') c.if-not-passes.false c.passes.ensures in
+    let h : Shortly b k [] k' = subst (λ r. Passes b k r k') c.if-not-passes.false c.passes.ensures.passes in
     record {
       state = state_path _ _ h.core (ap (λ ss. drawn_all ss (g.P.Panel.make.cells c.args.self.now.panel)) h.strokes);
       grown = subst (λ fs. Grown c.args.faults.now fs c.args.faults.now) h.faults (grown_none c.args.faults.now);
