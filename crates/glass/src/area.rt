@@ -16,6 +16,7 @@ pub struct Position {
 
 impl Position {
     // The place of a position, if it is on the glass.
+    #[inline(always)]
     pub fn place(self) -> Option<usize>
         ensures { result ≡ place_at self.column self.row }
     {
@@ -44,6 +45,7 @@ pub const WHOLE: Area = Area {
 };
 
 impl Area {
+    #[inline(always)]
     pub fn holds(self, at: Position) -> bool
         ensures { result ≡ holds self at.column at.row }
     {

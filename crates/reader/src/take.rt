@@ -85,6 +85,7 @@ fn after_us(byte: u8) -> Step
 }
 
 impl Reading {
+    #[inline(always)]
     #[tactic(auto, using(crate::proofs::Stepped::ended_rests))]
     pub fn take(self, byte: u8) -> Step
         ensures step { result ≡ step self byte }

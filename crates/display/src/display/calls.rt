@@ -22,6 +22,7 @@ use terms::settings::Settings;
 // The longest piece that is fed at once.
 pub const LONGEST: usize = 4096;
 
+#[inline(always)]
 fn draw_some<P: Panel>(panel: &mut P, stroke: Option<Stroke>)
     ensures { Drew P.make panel.old (drawn_all (one stroke) (P.make.cells panel.old)) panel.new }
 {
@@ -30,6 +31,7 @@ fn draw_some<P: Panel>(panel: &mut P, stroke: Option<Stroke>)
     }
 }
 
+#[inline(always)]
 fn draw_all<P: Panel>(panel: &mut P, strokes: Strokes)
     ensures { Drew P.make panel.old (drawn_all (strokes_of strokes) (P.make.cells panel.old)) panel.new }
 {
@@ -38,6 +40,7 @@ fn draw_all<P: Panel>(panel: &mut P, strokes: Strokes)
 }
 
 // Appends a fault, if there is one.
+#[inline(always)]
 fn note(faults: &mut BoundedList<'_, Fault>, fault: Option<Fault>)
     requires { length (entries faults.old) < capacity faults.old }
     ensures { Grown faults.old (fault_of fault) faults.new }
@@ -66,6 +69,7 @@ impl<P: Panel> Display<P> {
     }
 
     // One byte, with its faults. Most bytes go the short way.
+    #[inline(always)]
     fn take(&mut self, byte: u8, faults: &mut BoundedList<'_, Fault>)
         requires { length (entries faults.old) + 1 < capacity faults.old }
         ensures { Takes P.make self.old byte faults.old self.new faults.new }
@@ -81,6 +85,7 @@ impl<P: Panel> Display<P> {
     }
 
     // The way of any byte.
+    #[inline(always)]
     fn take_long(&mut self, byte: u8, faults: &mut BoundedList<'_, Fault>)
         requires { length (entries faults.old) + 1 < capacity faults.old }
         ensures { Takes P.make self.old byte faults.old self.new faults.new }

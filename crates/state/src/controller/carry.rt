@@ -167,6 +167,7 @@ impl Controller {
         })
     }
 
+    #[inline(always)]
     pub(crate) fn carry(&mut self, item: Item) -> Result<Strokes, DisplayFault>
         ensures { Does (effect item.voice item.command (core_of self.old)) result (core_of self.new) }
     {

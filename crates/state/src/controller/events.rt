@@ -33,6 +33,7 @@ fn told(voice: Voice, fault: DisplayFault) -> Fault
 }
 
 // What is drawn and reported of an answer.
+#[inline(always)]
 fn reply(voice: Voice, selected: bool, answer: Result<Strokes, DisplayFault>) -> Reply
     ensures strokes { result.strokes ≡ strokes_in answer }
     ensures fault { fault_of result.fault ≡ reported voice selected answer }
@@ -51,6 +52,7 @@ fn reply(voice: Voice, selected: bool, answer: Result<Strokes, DisplayFault>) ->
 
 impl Controller {
     // Carries out what was heard. (Two clauses, since an act is no `Effect`: it tells what was carried out as well.)
+    #[inline(always)]
     fn obey(&mut self, heard: Result<Option<Item>, ReadFault>) -> Result<Strokes, DisplayFault>
         ensures answer { result ≡ (obeyed heard (core_of self.old)).answer }
         ensures core { core_of self.new ≡ (obeyed heard (core_of self.old)).core }
@@ -62,6 +64,7 @@ impl Controller {
     }
 
     // A host byte ends a playback.
+    #[inline(always)]
     fn end_playback(&mut self) -> Option<Stroke>
         ensures stroke { one result ≡ ending (core_of self.old) }
         ensures core { core_of self.new ≡ ended (core_of self.old) }
@@ -80,6 +83,7 @@ impl Controller {
     }
 
     // A recording stores a byte.
+    #[inline(always)]
     fn keep(&mut self, byte: u8) -> Option<Fault>
         ensures fault { fault_of result ≡ overflows (core_of self.old) }
         ensures core { core_of self.new ≡ kept byte (core_of self.old) }
@@ -90,6 +94,7 @@ impl Controller {
         self.tape.store(byte).map(|fault| Fault::Said { fault })
     }
 
+    #[inline(always)]
     pub fn byte(&mut self, byte: u8) -> HostReply
         ensures { Replies byte self.old result self.new }
     {

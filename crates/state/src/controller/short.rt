@@ -36,6 +36,7 @@ impl Controller {
     }
 
     // Whether a host byte writes a character where the cursor stands, and does nothing else.
+    #[inline(always)]
     pub fn is_typing(&self, byte: u8) -> bool
         ensures value { result ≡ typing byte (core_of self.now) }
         ensures types { result ≡ true → Types byte (core_of self.now) }
@@ -47,6 +48,7 @@ impl Controller {
     }
 
     // The cell of the character that a byte writes.
+    #[inline(always)]
     pub fn typed_cell(&self, byte: u8) -> u64
         ensures { result ≡ typed_cell byte (core_of self.now) }
     {
@@ -54,6 +56,7 @@ impl Controller {
     }
 
     // A character was written: the cursor goes right, and nothing is half read.
+    #[inline(always)]
     pub fn type_on(&mut self)
         ensures { core_of self.new ≡ typed_on (core_of self.old) }
     {
@@ -63,6 +66,7 @@ impl Controller {
 
     // Takes a host byte with which a frequent command goes on, or the cursor goes to a place of the window. Any other byte is
     // not taken, and still to be read.
+    #[inline(always)]
     pub fn passes(&mut self, byte: u8) -> bool
         ensures value { result ≡ passing byte (core_of self.old) }
         ensures passes { Passes byte (core_of self.old) result (core_of self.new) }

@@ -33,6 +33,7 @@ impl<'a> Speaking<'a> {
 }
 
 // Reads one byte; the item bears who speaks.
+#[inline(always)]
 fn hear(speaker: &Speaker, reading: &mut Reading, byte: u8) -> Result<Option<Item>, ReadFault>
     ensures { Hears speaker.now.voice reading.old byte result reading.new }
 {
@@ -107,6 +108,7 @@ impl Listener {
     }
 
     // A byte of the host.
+    #[inline(always)]
     pub(crate) fn heard(&mut self, byte: u8) -> Result<Option<Item>, ReadFault>
         ensures { Hears Host self.old.reading byte result self.new.reading }
     {
