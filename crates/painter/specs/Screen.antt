@@ -1,4 +1,5 @@
--- A painter that draws only what waits, or everything where the flag is up, has the glass on its screen.
+-- A painter whose screen held the panel's picture when it began, and who draws only what waits, or everything where the flag is up, has the
+-- glass on its screen.
 use Rattle.std.specs.Prelude.{◌≡◌, ℕ, false, cond, List}
 use Rattle.strip.specs.declared.strip.StripPanel.{StripPanel}
 use Rattle.strip.specs.Strip.{picture_of, waiting_of, merged, cells_of, Paints}
