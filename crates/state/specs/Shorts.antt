@@ -23,7 +23,7 @@ use Rattle.state.specs.Model.{byte, respond}
 abbrev pub undisturbed : Core → Bool
 undisturbed c = c.selected && (not (is_playing c.tape.current) && not (is_recording c.tape.current))
 
--- in this mode a step to the right draws nothing
+-- a mode, and in vertical mode a column, from which a step to the right surely draws nothing
 abbrev pub quiet : Mode → Layout → Bool
 quiet Overwrite l = true
 quiet Vertical l = nat_lt l.column (here l).x2
