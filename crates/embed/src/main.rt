@@ -5,23 +5,11 @@ use anyhow::Context;
 use display::display::Display;
 use display::words::{Answer, Question};
 use list::BoundedList;
+use painter::paint;
 use panel::draw::cells;
 use strip::{NO_CHANGE, StripPanel};
 use terms::fault::UNUSED;
 use terms::settings::Settings;
-
-// Paints the changes that wait, oldest first, or all places if the panel could not keep every change.
-fn paint(screen: &mut [u64; 40], panel: &StripPanel<'_>) {
-    if panel.paint_all() {
-        *screen = cells(panel);
-        return;
-    }
-    for change in panel.changes() {
-        if let Some(cell) = screen.get_mut(change.place) {
-            *cell = change.cell;
-        }
-    }
-}
 
 // Two rows of text, by the codes of the cells.
 fn show(rt: &HostRuntime, screen: &[u64; 40]) -> anyhow::Result<()> {
