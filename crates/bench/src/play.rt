@@ -5,7 +5,7 @@ use crate::day::Day;
 use crate::seen::Seen;
 use crate::watched::Watched;
 use anyhow::Context;
-use display::display::calls::LONGEST;
+use display::engine::LONGEST;
 use panel::{Panel, PlainPanel};
 use std::alloc::Global;
 use strip::{Change, NO_CHANGE, StripPanel};

@@ -1,12 +1,13 @@
 // What is seen of a display while a day is played on it.
 use crate::sum::Sum;
-use display::display::Display;
+use commands::words::Name;
+use display::Display;
 use display::words::{Answer, Question};
 use panel::Panel;
 use panel::draw::cells;
 use std::fmt;
 use std::num::Saturating;
-use terms::fault::Fault;
+use terms::fault::{Fault, Report};
 
 #[derive(Default, Drop)]
 pub struct Seen {
@@ -28,18 +29,15 @@ impl Seen {
 
     pub fn fault(&mut self, fault: Fault) {
         self.faults += 1;
-        let inner = fault.inner();
-        let speaker = match fault {
-            Fault::Said { .. } => b'h',
-            Fault::Played { .. } => b'p',
-        };
-        self.answers.bytes(&[
-            inner.cause(),
-            inner.first(),
-            inner.second(),
-            inner.operand(),
-            speaker,
-        ]);
+        let Report {
+            cause,
+            name: Name { first, second },
+            operand,
+            played,
+        } = fault.report();
+        let speaker = if played { b'p' } else { b'h' };
+        self.answers
+            .bytes(&[cause, first, second, operand, speaker]);
     }
 
     // The forty cells, and the answers to questions.

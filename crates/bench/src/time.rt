@@ -3,10 +3,12 @@ use crate::day::Day;
 use crate::play::STRIP;
 use crate::sum::Sum;
 use crate::watched::Watched;
-use display::display::Display;
-use display::display::calls::LONGEST;
+use commands::words::Dialect;
+use display::Display;
+use display::engine::LONGEST;
 use items::walk::count;
 use panel::{Panel, PlainPanel};
+use sets::Commands;
 use std::mem::size_of;
 use std::time::{Duration, Instant};
 use strip::StripPanel;
@@ -67,7 +69,7 @@ fn panels(rt: &HostRuntime, day: &[u8]) -> anyhow::Result<()> {
 fn reading(rt: &HostRuntime, day: &[u8]) -> anyhow::Result<()> {
     let mut items = 0;
     let rate = fastest(rt, day, DAYS, |day| {
-        items = count(day);
+        items = count::<Commands>(day, Dialect::EscPos);
         Ok(())
     })?;
     println!(rt; "item reader: {rate} bytes per second, {items} items")?;

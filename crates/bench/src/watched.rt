@@ -3,8 +3,8 @@ ghost use Rattle.std.specs.Prelude.{◌<◌};
 
 use crate::seen::Seen;
 use anyhow::Context;
-use display::display::Display;
-use display::display::calls::LONGEST;
+use display::Display;
+use display::engine::LONGEST;
 use list::BoundedList;
 use panel::Panel;
 use std::alloc::Global;

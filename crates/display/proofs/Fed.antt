@@ -3,6 +3,7 @@ use Rattle.std.proofs.Common.{◌≡◌, ℕ, ◌+◌, ◌*◌, ◌<◌, ◌≤�
 use Rattle.std.proofs.lemmas.List.{append-nil, map-append, take_more, take_all, length-append, length-set}
 use Rattle.list.specs.declared.list.BoundedList.{BoundedList}
 use Rattle.list.specs.Entries.{entries, places, capacity}
+use Rattle.commands.specs.Sets.{Reads}
 use Rattle.terms.specs.declared.fault.Fault.{Fault}
 use Rattle.state.specs.Model.{State, byte, next, after, faults, reply, fault_of}
 use Rattle.state.proofs.Runs.{after-append, faults-append, few_faults}
@@ -35,37 +36,38 @@ grown_more l m n fs gs a b =
 pub grown_capacity : (l m : BoundedList Fault) (fs : List Fault) → Grown l fs m → capacity m ≡ capacity l
 grown_capacity l m fs a = ap length a.places ∙ laid-length (places l) (length (entries l)) fs
 
--- the first i bytes of a piece have led from s and l to t and m
-pub record Sofar (s : State) (l : BoundedList Fault) (piece : List ℕ) (i : ℕ) (t : State) (m : BoundedList Fault) : Type 0 where
-  pub state : t ≡ after s (map byte (take i piece))
-  pub grown : Grown l (faults s (map byte (take i piece))) m
-  pub few : length (faults s (map byte (take i piece))) ≤ 2 * i
+module _ {R : Type 0} (reads : Reads R) where
+  -- the first i bytes of a piece have led from s and l to t and m
+  pub record Sofar (s : State R) (l : BoundedList Fault) (piece : List ℕ) (i : ℕ) (t : State R) (m : BoundedList Fault) : Type 0 where
+    pub state : t ≡ after reads s (map byte (take i piece))
+    pub grown : Grown l (faults reads s (map byte (take i piece))) m
+    pub few : length (faults reads s (map byte (take i piece))) ≤ 2 * i
 
-pub sofar_none : (s : State) (l : BoundedList Fault) (piece : List ℕ) → Sofar s l piece 0 s l
-sofar_none s l piece = record { state = refl; grown = grown_none l; few = omega arith }
+  pub sofar_none : (s : State R) (l : BoundedList Fault) (piece : List ℕ) → Sofar s l piece 0 s l
+  sofar_none s l piece = record { state = refl; grown = grown_none l; few = omega arith }
 
--- one byte more
-pub sofar_more : (s t u : State) (l m n : BoundedList Fault) (piece : List ℕ) (i b : ℕ) → i < length piece → b ≡ get_or piece i 0 →
-    Sofar s l piece i t m → u ≡ next t (byte b) → Grown m (reply (byte b) t).faults n → Sofar s l piece (i + 1) u n
-sofar_more s t u l m n piece i b lt is h su gr =
-    let es = map byte (take i piece) in
-    let split : map byte (take (i + 1) piece) ≡ es ++ byte b ∷ [] =
-    ap (map byte) (take_more piece i 0 lt ∙ ap (λ x. take i piece ++ x ∷ []) (sym is)) ∙ map-append byte (take i piece) (b ∷ []) in
-    let fs = faults s es in
-    let gs = (reply (byte b) t).faults in
-    let all : fs ++ gs ≡ faults s (map byte (take (i + 1) piece)) =
-    ap (λ x. fs ++ (reply (byte b) x).faults) h.state ∙ ap (λ x. fs ++ x) (sym (append-nil (reply (byte b) (after s es)).faults)) ∙ sym (faults-append s es (byte b ∷ [])) ∙ ap (faults s) (sym split) in
-    record {
-      state = su ∙ ap (λ x. next x (byte b)) h.state ∙ sym (after-append s es (byte b ∷ [])) ∙ ap (after s) (sym split);
-      grown = subst (λ x. Grown l x n) all (grown_more l m n fs gs h.grown gr);
-      few = omega (arith, h.few, ap length (sym all), length-append fs gs, few_faults (byte b) t.core);
-    }
+  -- one byte more
+  pub sofar_more : (s t u : State R) (l m n : BoundedList Fault) (piece : List ℕ) (i b : ℕ) → i < length piece → b ≡ get_or piece i 0 →
+      Sofar s l piece i t m → u ≡ next reads t (byte b) → Grown m (reply reads (byte b) t).faults n → Sofar s l piece (i + 1) u n
+  sofar_more s t u l m n piece i b lt is h su gr =
+      let es = map byte (take i piece) in
+      let split : map byte (take (i + 1) piece) ≡ es ++ byte b ∷ [] =
+      ap (map byte) (take_more piece i 0 lt ∙ ap (λ x. take i piece ++ x ∷ []) (sym is)) ∙ map-append byte (take i piece) (b ∷ []) in
+      let fs = faults reads s es in
+      let gs = (reply reads (byte b) t).faults in
+      let all : fs ++ gs ≡ faults reads s (map byte (take (i + 1) piece)) =
+      ap (λ x. fs ++ (reply reads (byte b) x).faults) h.state ∙ ap (λ x. fs ++ x) (sym (append-nil (reply reads (byte b) (after reads s es)).faults)) ∙ sym (faults-append reads s es (byte b ∷ [])) ∙ ap (faults reads s) (sym split) in
+      record {
+        state = su ∙ ap (λ x. next reads x (byte b)) h.state ∙ sym (after-append reads s es (byte b ∷ [])) ∙ ap (after reads s) (sym split);
+        grown = subst (λ x. Grown l x n) all (grown_more l m n fs gs h.grown gr);
+        few = omega (arith, h.few, ap length (sym all), length-append fs gs, few_faults reads (byte b) t.reading t.core);
+      }
 
--- the whole piece
-pub sofar_all : (s t : State) (l m : BoundedList Fault) (piece : List ℕ) (i : ℕ) → length piece ≤ i → Sofar s l piece i t m →
-    (t ≡ after s (map byte piece)) × Grown l (faults s (map byte piece)) m
-sofar_all s t l m piece i le h =
-    subst (λ p. (t ≡ after s (map byte p)) × Grown l (faults s (map byte p)) m) (take_all i piece le) (h.state, h.grown)
+  -- the whole piece
+  pub sofar_all : (s t : State R) (l m : BoundedList Fault) (piece : List ℕ) (i : ℕ) → length piece ≤ i → Sofar s l piece i t m →
+      (t ≡ after reads s (map byte piece)) × Grown l (faults reads s (map byte piece)) m
+  sofar_all s t l m piece i le h =
+      subst (λ p. (t ≡ after reads s (map byte p)) × Grown l (faults reads s (map byte p)) m) (take_all i piece le) (h.state, h.grown)
 
 -- a piece that is short enough, with room for its faults, has no cause of refusal
 pub no_cause : (piece : List ℕ) (l : BoundedList Fault) → length piece ≤ 4096 → room_needed piece ≤ free l → feed_cause piece l ≡ None

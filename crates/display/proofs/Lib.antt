@@ -1,1 +1,2 @@
-mod Fed
+pub mod Fed
+pub mod Shorts

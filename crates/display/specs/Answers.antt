@@ -17,7 +17,7 @@ abbrev pub cell_at : List ℕ → Option ℕ → Result Answer AskRefusal
 cell_at g None = Err OffGlass
 cell_at g (Some k) = Ok (say.Cell (slice_index g k))
 
-abbrev pub answer : State → Question → Result Answer AskRefusal
+abbrev pub answer : {R : Type 0} → State R → Question → Result Answer AskRefusal
 answer s (ask.Cell x y) = cell_at s.glass (place_at x y)
 answer s ask.Cursor = Ok (say.Cursor (cursor_of s.core.layout))
 answer s (ask.Window n) = Ok (say.Window (window_area s.core.layout.slots n))

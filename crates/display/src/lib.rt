@@ -1,5 +1,8 @@
-// A display over a panel of any make, by the calls that a till builder makes.
+// A display over a panel of any make: the calls of a till.
 #![tactic(auto)]
 
-pub mod display;
+pub mod engine;
 pub mod words;
+
+/// A customer display over a panel of the make `P`, with the command sets that tills speak.
+pub type Display<P> = engine::Display<P, sets::Commands>;

@@ -2,7 +2,7 @@
 #![tactic(auto)]
 
 use anyhow::Context;
-use display::display::Display;
+use display::Display;
 use display::words::{Answer, Question};
 use list::BoundedList;
 use painter::paint;
@@ -49,7 +49,7 @@ fn run(rt: &HostRuntime) -> anyhow::Result<()> {
         println!(rt; "cursor {} {}", cursor.column, cursor.row)?;
     }
     if let Some(fault) = faults.nth(0) {
-        println!(rt; "fault {}", fault.inner().cause())?;
+        println!(rt; "fault {}", fault.report().cause)?;
     }
     // The panel comes back and the display is gone: to feed it from here on does not compile.
     let panel = display.switch_off();

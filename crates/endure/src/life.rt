@@ -8,7 +8,7 @@ use crate::dice::Dice;
 use crate::tally::Tally;
 use crate::till::Turn;
 use crate::watched::Watched;
-use display::display::Display;
+use display::Display;
 use display::words::{Answer, Question};
 use panel::PlainPanel;
 use std::alloc::{AllocError, Global};

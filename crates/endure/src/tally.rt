@@ -1,12 +1,13 @@
 // What a life came to, in numbers.
 use crate::sum::Sum;
-use display::display::Display;
+use commands::words::Name;
+use display::Display;
 use display::words::{Answer, Question};
 use panel::Panel;
 use panel::draw::cells;
 use std::fmt;
 use std::num::Saturating;
-use terms::fault::Fault;
+use terms::fault::{Fault, Report};
 
 // How often something came.
 type Count = Saturating<u64>;
@@ -32,21 +33,22 @@ pub struct Tally {
 
 impl Tally {
     pub fn count(&mut self, fault: Fault) {
-        let inner = fault.inner();
-        let counts = match fault {
-            Fault::Said { .. } => &mut self.said,
-            Fault::Played { .. } => &mut self.played,
+        let Report {
+            cause,
+            name: Name { first, second },
+            operand,
+            played,
+        } = fault.report();
+        let counts = if played {
+            &mut self.played
+        } else {
+            &mut self.said
         };
-        if let Some(count) = counts.get_mut(usize::from(inner.cause())) {
+        if let Some(count) = counts.get_mut(usize::from(cause)) {
             *count += 1;
         }
-        self.sum.add(&[
-            inner.cause(),
-            inner.first(),
-            inner.second(),
-            inner.operand(),
-            u8::from(matches!(fault, Fault::Played { .. })),
-        ]);
+        self.sum
+            .add(&[cause, first, second, operand, u8::from(played)]);
     }
 
     // What a display shows and says of itself.

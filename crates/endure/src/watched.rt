@@ -1,5 +1,5 @@
 // A display with the faults that it gave since they were last compared.
-use display::display::Display;
+use display::Display;
 use history::compare::same_lives;
 use list::BoundedList;
 use panel::Panel;

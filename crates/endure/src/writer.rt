@@ -3,7 +3,7 @@ ghost use Rattle.std.specs.Prelude.{◌<◌};
 
 use crate::dice::Dice;
 use crate::page::Page;
-use reader::words::{ESC, US};
+use commands::words::{ESC, US};
 
 #[derive(Drop)]
 pub struct Writer {

@@ -2,4 +2,5 @@
 #![tactic(auto)]
 
 pub mod area;
+pub mod frame;
 pub mod stroke;

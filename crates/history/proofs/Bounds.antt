@@ -1,15 +1,15 @@
 -- What a display never exceeds: its window record and its tape hold these facts.
-use Rattle.std.proofs.Common.{◌≡◌, ℕ, ◌≤◌, true, ◌&&◌, ltb, leb, length, Some, Option, sym, ap, ◌∙◌, subst, arith}
+use Rattle.std.proofs.Common.{◌≡◌, ℕ, ◌≤◌, true, length, Some, Option, sym, ap, ◌∙◌, subst, arith}
 use Rattle.std.proofs.lemmas.List.{length-take-le}
-use Rattle.std.proofs.lemmas.Bool.{and_parts, leb-true, ltb-true, eqb-true}
 use Rattle.std.proofs.lemmas.Bool.Decides.{nat_tests}
 use Rattle.glass.specs.declared.area.Area.{Area}
 use Rattle.glass.specs.Places.{holds, whole, lawful, apart}
 use Rattle.panel.specs.Laws.{Make, Laws}
-use Rattle.state.specs.declared.controller.Controller.{Controller}
+use Rattle.commands.specs.Sets.{Reads}
+use Rattle.state.specs.declared.controller.Machine.{Machine}
 use Rattle.state.specs.declared.tape.Tape.{Tape}
 use Rattle.state.specs.declared.tape.Use.{Use}
-use Rattle.state.specs.declared.tape.Use.TheVariants.{Blank, Recording, Stored, Playing}
+use Rattle.state.specs.declared.tape.Use.TheVariants.{Blank}
 use Rattle.state.specs.Reels.{lawful_reel}
 use Rattle.state.specs.Slots.{fits, clears}
 use Rattle.state.specs.Tapes.{reel_of}
@@ -17,26 +17,15 @@ use Rattle.state.specs.Core.{core_of}
 use Rattle.history.specs.Bounds.{Stores, Bounded, Bounds}
 use Rattle.history.proofs.Lived.{life_run}
 
-stores : (u : Use) (n : ℕ) → lawful_reel u n ≡ true → Stores u n
-stores Blank n h = eqb-true n 0 h
-stores Recording n h = leb-true n 82 h
-stores Stored n h = let a = and_parts (leb 1 n) (leb n 80) h in (leb-true 1 n a.0, leb-true n 80 a.1)
-stores (Playing p q w k) n h =
-    let a = and_parts (leb 1 n) (leb n 80 && ltb k n) h in
-    let b = and_parts (leb n 80) (ltb k n) a.1 in
-    (leb-true 1 n a.0, leb-true n 80 b.0, ltb-true k n b.1)
-
--- no more than the tape's memory
-most : (u : Use) (n : ℕ) → Stores u n → n ≤ 82
-most Blank n h = omega arith
-most Recording n h = h
-most Stored n h = omega arith
-most (Playing p q w k) n h = omega arith
+-- what a tape stores, which is no more than its memory
+stores : (u : Use) (n : ℕ) → lawful_reel u n ≡ true → Stores u n × (n ≤ 82)
+stores Blank n h = grind (arith, nat_tests)
+stores u n h = grind (arith, nat_tests)
 
 tape_stores : (t : Tape) → Stores t.current (length (reel_of t).bytes)
 tape_stores t =
     let s = stores t.current t.len t.bounds in
-    subst (Stores t.current) (sym (length-take-le t.len t.bytes (omega (arith, most t.current t.len s, t.size)))) s
+    subst (Stores t.current) (sym (length-take-le t.len t.bytes (omega (arith, s.1, t.size)))) s.0
 
 corner_held : (a : Area) → lawful a ≡ true → holds a a.x1 a.y1 ≡ true
 corner_held a h = grind (arith, nat_tests)
@@ -50,7 +39,7 @@ none_shared a b p x y h k = grind (arith, nat_tests)
 both_clear : (o k : Option Area) (a b : Area) → clears o k ≡ true → o ≡ Some a → k ≡ Some b → apart a b ≡ true
 both_clear o k a b h p q = ap (λ x. clears x (Some b)) (sym p) ∙ ap (clears o) (sym q) ∙ h
 
-pub bounded : (c : Controller) → Bounded (core_of c)
+bounded : (c : Machine) → Bounded (core_of c)
 bounded c =
     let w = c.windows in
     record {
@@ -62,9 +51,8 @@ bounded c =
       sharing = λ n m a b d p q. none_shared a b (both_clear _ _ a b (w.sharing n m d) p q);
     }
 
-module _ {P : Type 0} (make : Make P) (laws : Laws make) where
-  pub bounds : Bounds make
-  bounds = record {
-    displays = λ d. bounded d.controller;
-    lives = λ p es fs d life. subst Bounded (ap (λ s. s.core) (life_run make laws p es fs d life).state) (bounded d.controller);
-  }
+pub bounds : {P R : Type 0} (make : Make P) (laws : Laws make) (reads : Reads R) → Bounds make reads
+bounds make laws reads = record {
+  displays = λ d. bounded d.controller.machine;
+  lives = λ p es fs d life. subst Bounded (ap (λ s. s.core) (life_run make laws reads p es fs d life).state) (bounded d.controller.machine);
+}

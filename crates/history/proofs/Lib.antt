@@ -5,6 +5,7 @@ pub mod Recalled
 pub mod Malformed
 mod Lived
 mod Bounds
+mod Named
 mod Replayed
 mod Compared
 mod Said

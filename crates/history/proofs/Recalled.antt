@@ -1,370 +1,265 @@
--- After the recall, whatever came before, a display is new.
-use Rattle.std.proofs.Common.{◌≡◌, ℕ, zero, suc, ◌≤◌, Bool, true, false, cond, ◌||◌, ltb, leb, ◌⊎◌, List, [], ◌∷◌, ◌++◌, length, get_or, drop, Some, None, Ok, Err, Option, Result, sym, refl, ap, ◌∙◌, subst, inl, inr, arith}
+-- After the recall a display is new, whatever came before: from the laws of its command sets alone.
+use Rattle.std.proofs.Common.{◌≡◌, ℕ, Bool, true, false, ◌||◌, leb, ltb, List, [], ◌∷◌, ◌++◌, length, Some, None, Ok, Option, Result, sym, refl, ap, ◌∙◌, subst}
+use Rattle.std.proofs.Math.Bool.{or-true}
 use Rattle.std.proofs.lemmas.Bool.{cond_both, cond-true, cond-false, true≢false}
 use Rattle.glass.specs.Drawn.{drawn_all}
-use Rattle.reader.specs.declared.words.Command.{Command}
-use Rattle.reader.specs.declared.words.Command.TheVariants.{Select, Define}
-use Rattle.reader.specs.declared.words.Outcome.TheVariants.{Complete}
-use Rattle.reader.specs.declared.words.ReadFault.{ReadFault}
-use Rattle.reader.specs.declared.words.Reading.{Reading}
-use Rattle.reader.specs.declared.words.Reading.TheVariants.{Rest, AfterEsc, SelectN}
-use Rattle.reader.specs.declared.words.Step.{Step}
-use Rattle.reader.specs.Steps.{step, wait, done}
-use Rattle.reader.specs.Cancels.{Fits, depth}
-use Rattle.reader.proofs.Cancels.{fits_step, depth_zero, depth_six, depth_step}
-use Rattle.reader.proofs.Stepped.{Stepped, waits, completes, ignores, between, malformed, stepped}
+use Rattle.panel.proofs.Glass.{blank_whole}
+use Rattle.commands.specs.declared.words.Dialect.{Dialect}
+use Rattle.commands.specs.declared.words.Dialect.TheVariants.{EscPos}
+use Rattle.commands.specs.declared.words.Mode.{Mode}
+use Rattle.commands.specs.declared.words.Mode.TheVariants.{Horizontal}
+use Rattle.commands.specs.declared.words.Command.{Command}
+use Rattle.commands.specs.declared.words.Command.TheVariants.{Character, Define, Select, Initialize}
+use Rattle.commands.specs.declared.outcome.ReadFault.{ReadFault}
+use Rattle.commands.specs.declared.outcome.Outcome.{Outcome}
+use Rattle.commands.specs.declared.outcome.Outcome.TheVariants.{Pending, Complete, Partial}
+use Rattle.commands.specs.Items.{ends}
+use Rattle.commands.specs.Sets.{Reads, SetsLaws, Says, run, six, to}
+use Rattle.terms.specs.Presets.{Preset}
 use Rattle.state.specs.declared.listener.Item.{Item}
 use Rattle.state.specs.declared.listener.Voice.{Voice}
 use Rattle.state.specs.declared.listener.Voice.TheVariants.{Host, Macro}
 use Rattle.state.specs.declared.tape.Use.{Use}
-use Rattle.state.specs.declared.tape.Use.TheVariants as used
-use Rattle.terms.specs.Presets.{Preset}
+use Rattle.state.specs.declared.tape.Use.TheVariants.{Recording, Playing}
 use Rattle.state.specs.Heard.{heard_as}
+use Rattle.state.specs.Lamps.{lamp_ticked}
 use Rattle.state.specs.Reels.{is_playing}
 use Rattle.state.specs.Tapes.{Reel, stored_by, stopped_by, is_last, wound_by, due, due_by}
-use Rattle.state.specs.Core.{Core, fresh, with_reading, with_selected}
-use Rattle.state.specs.Effects.{Effect, effect}
-use Rattle.state.specs.Model.{State, Event, byte, tick, Act, heeded, idle, did, obeyed, taken, drawn_by, ended, ending, before, ticked, played, respond, reply, new, next, after, bytes_of}
-use Rattle.history.specs.Recall.{Recalls}
-use Rattle.panel.proofs.Glass.{blank_whole}
-use Rattle.history.proofs.Runs.{state_path, after-append, drawn_all-length}
-use Rattle.history.proofs.Framed.{Framed, framed, stays, refused, moves, renews, not_ended, kept_still, before_moved}
+use Rattle.state.specs.Core.{Core}
+use Rattle.state.specs.Effects.{writes, effect}
+use Rattle.state.specs.Model.{State, Event, byte, tick, Act, heeded, obeyed, drawn_by, ended, ending, before, ticked, forgotten, played, reply, new, next, after, bytes_of}
+use Rattle.state.proofs.Runs.{after-append}
+use Rattle.history.specs.Recall.{recall, Recalls}
+use Rattle.history.proofs.Runs.{drawn_all-length}
 
--- What every command keeps: the settings, and the reading but for a rest.
-record Kept (c e : Core) : Type 0 where
-  settings : e.settings ≡ c.settings
-  reading : (e.reading ≡ c.reading) ⊎ (e.reading ≡ Rest)
+-- What is carried out keeps the settings.
+written : (m : Mode) (c : Core) (v : ℕ) → (writes m c v).core.settings ≡ c.settings
+written Horizontal c v = refl
+written m c v = refl
 
-effect_kept : {d : Command} {c : Core} {e : Effect} → Framed d c e → Kept c e.core
-effect_kept (stays e s p q w o) = record { settings = p; reading = inl q }
-effect_kept (refused f) = record { settings = refl; reading = inl refl }
-effect_kept (moves l t) = record { settings = refl; reading = inl refl }
-effect_kept (renews t) = record { settings = refl; reading = inr refl }
+effect_settings : (v : Voice) (d : Command) (c : Core) → (effect v d c).core.settings ≡ c.settings
+effect_settings v (Character n m) c = written c.pen.mode c _
+effect_settings Host d c = refl
+effect_settings Macro d c = refl
 
-obeyed_kept : (i : Result (Option Item) ReadFault) (c : Core) → Kept c (obeyed i c).core
-obeyed_kept (Ok None) c = record { settings = refl; reading = inl refl }
-obeyed_kept (Ok (Some i)) c =
-    cond_both (c.selected || heeded i.voice i.command) _ _ (λ (a : Act). Kept c a.core)
-    (λ _. effect_kept (framed i.voice i.command c)) (λ _. record { settings = refl; reading = inl refl })
-obeyed_kept (Err f) c = record { settings = refl; reading = inl refl }
+obeyed_settings : (h : Result (Option Item) ReadFault) (c : Core) → (obeyed h c).core.settings ≡ c.settings
+obeyed_settings (Ok (Some i)) c =
+    cond_both (c.selected || heeded i.voice i.command) _ _ (λ (a : Act). a.core.settings ≡ c.settings)
+    (λ _. effect_settings i.voice i.command c) (λ _. refl)
+obeyed_settings h c = refl
 
--- what holds of a reading and of rest holds after the command
-kept_reading : (P : Reading → Type 0) (c e : Core) → Kept c e → P Rest → P c.reading → P e.reading
-kept_reading P c e k r h = elim k.reading [ inl q ↦ subst P (sym q) h | inr q ↦ subst P (sym q) r ]
-
--- the state in which a command finds the display
-abbrev read_on : Core → ℕ → Core
-read_on c b = with_reading c (step c.reading b).next
-
-taken_kept : (v : Voice) (b : ℕ) (c : Core) → Kept (read_on c b) (taken v b c).core
-taken_kept v b c = obeyed_kept (heard_as v (step c.reading b).outcome) (read_on c b)
-
--- what holds of rest, and of a reading where it goes one step, holds after a byte is taken
-taken_reading : (P : Reading → Type 0) (v : Voice) (b : ℕ) (c : Core) → P Rest → P (step c.reading b).next → P (taken v b c).core.reading
-taken_reading P v b c r h = kept_reading P (read_on c b) (taken v b c).core (taken_kept v b c) r h
-
--- The end of a playback puts the reading to rest; storing a byte leaves it alone.
-ended_reading : (P : Reading → Type 0) (c : Core) → P Rest → P c.reading → P (ended c).reading
-ended_reading P c r h = cond_both (is_playing c.tape.current) _ _ (λ (x : Core). P x.reading) (λ _. r) (λ _. h)
-
-before_reading : (P : Reading → Type 0) (b : ℕ) (c : Core) → P (ended c).reading → P (before b c).reading
-before_reading P b c h = subst P (sym (ap (λ x. x.reading) (kept_still b (ended c)))) h
-
--- What holds of a display all along: of the settings and the reading, and of the glass.
-record Well (p : Preset) (c : Core) : Type 0 where
-  settings : c.settings ≡ p
-  fits : Fits c.reading
-
-record Sound (p : Preset) (s : State) : Type 0 where
-  well : Well p s.core
-  forty : length s.glass ≡ 40
-
-taken_well : (p : Preset) (v : Voice) (b : ℕ) (c : Core) → Well p c → Well p (taken v b c).core
-taken_well p v b c h = record {
-  settings = (taken_kept v b c).settings ∙ h.settings;
-  fits = taken_reading Fits v b c tt (fits_step c.reading b h.fits);
-}
-
-played_well : (p : Preset) (o : Option ℕ) (c : Core) → Well p c → Well p (played o c).core
-played_well p None c h = h
-played_well p (Some b) c h = taken_well p Macro b c h
-
-before_well : (p : Preset) (b : ℕ) (c : Core) → Well p c → Well p (before b c)
-before_well p b c h = record {
-  settings = ap (λ x. x.settings) (before_moved b c) ∙ h.settings;
-  fits = before_reading Fits b c (ended_reading Fits c tt h.fits);
-}
-
-respond_well : (p : Preset) (e : Event) (c : Core) → Well p c → Well p (respond e c).core
-respond_well p (byte b) c h = taken_well p Host b (before b c) (before_well p b c h)
-respond_well p tick c h = played_well p (due c.tape) (ticked c) (record { settings = h.settings; fits = h.fits })
-
-sound_next : (p : Preset) (s : State) (e : Event) → Sound p s → Sound p (next s e)
-sound_next p s e h = record {
-  well = respond_well p e s.core h.well;
-  forty = drawn_all-length (reply e s).strokes s.glass ∙ h.forty;
-}
-
-sound_after : (p : Preset) (s : State) (es : List Event) → Sound p s → Sound p (after s es)
-sound_after p s [] h = h
-sound_after p s (e ∷ es) h = sound_after p (next s e) es (sound_next p s e h)
-
-sound_new : (p : Preset) → Sound p (new p)
-sound_new p = record { well = record { settings = refl; fits = tt }; forty = refl }
-
--- The recall, by how many of its bytes are still to come.
-abbrev next_byte : ℕ → ℕ
-next_byte zero = 0
-next_byte (suc zero) = 0x40
-next_byte (suc (suc zero)) = 0x1B
-next_byte (suc (suc (suc zero))) = 0x02
-next_byte (suc (suc (suc (suc zero)))) = 0x3D
-next_byte (suc (suc (suc (suc (suc zero))))) = 0x1B
-next_byte (suc (suc (suc (suc (suc (suc n)))))) = 0x18
-
-abbrev to_come : ℕ → List ℕ
-to_come zero = []
-to_come (suc n) = next_byte (suc n) ∷ to_come n
-
-abbrev plays : Core → Bool
-plays c = is_playing c.tape.current
-
--- how many bytes 18h bring the display to rest, at most: none while it plays, since the next byte of the host ends that
-abbrev far : Core → ℕ
-far c = depth (ended c).reading
-
-record Calling (p : Preset) (s : State) (k : ℕ) : Type 0 where
-  close : far s.core ≤ k
-  sound : Sound p s
-
--- it does not play, and has read so far
-record At (c : Core) (r : Reading) : Type 0 where
-  reading : c.reading ≡ r
-  silent : plays c ≡ false
-
-record Ready (p : Preset) (s : State) (r : Reading) : Type 0 where
-  at : At s.core r
-  sound : Sound p s
-
-record Chosen (p : Preset) (s : State) (r : Reading) : Type 0 where
-  ready : Ready p s r
-  selected : s.core.selected ≡ true
-
-abbrev Phase : Preset → ℕ → State → Type 0
-Phase p zero s = s ≡ new p
-Phase p (suc zero) s = Chosen p s AfterEsc
-Phase p (suc (suc zero)) s = Chosen p s Rest
-Phase p (suc (suc (suc zero))) s = Ready p s SelectN
-Phase p (suc (suc (suc (suc zero)))) s = Ready p s AfterEsc
-Phase p (suc (suc (suc (suc (suc zero))))) s = Calling p s 0
-Phase p (suc (suc (suc (suc (suc (suc n)))))) s = Calling p s (suc n)
-
--- What tapes keep: a tick and a stored byte neither start nor end a playback, and a host byte ends it.
-wound_plays : (u : Use) (bs : List ℕ) → is_playing (wound_by u bs).current ≡ is_playing u
-wound_plays used.Blank bs = refl
-wound_plays used.Recording bs = refl
-wound_plays used.Stored bs = refl
-wound_plays (used.Playing n m w k) bs =
-    cond_both (leb w 1) _ _ (λ (x : Reel). is_playing x.current ≡ true)
-    (λ _. cond_both (is_last k bs) _ _ (λ x. is_playing x ≡ true) (λ _. refl) (λ _. refl)) (λ _. refl)
-
-stored_plays : (u : Use) (bs : List ℕ) (b : ℕ) → is_playing (stored_by u bs b).current ≡ is_playing u
-stored_plays used.Blank bs b = refl
-stored_plays used.Recording bs b = cond_both (ltb (length bs) 82) _ _ (λ (x : Reel). is_playing x.current ≡ false) (λ _. refl) (λ _. refl)
-stored_plays used.Stored bs b = refl
-stored_plays (used.Playing n m w k) bs b = refl
+-- What plays ends with a host byte, and with nothing else that tapes do by themselves.
+abbrev playing : Core → Bool
+playing c = is_playing c.tape.current
 
 stopped_plays : (u : Use) (bs : List ℕ) → is_playing (stopped_by u bs).current ≡ false
-stopped_plays used.Blank bs = refl
-stopped_plays used.Recording bs = refl
-stopped_plays used.Stored bs = refl
-stopped_plays (used.Playing n m w k) bs = refl
+stopped_plays (Playing n m w k) bs = refl
+stopped_plays u bs = refl
 
-due_none : (u : Use) (bs : List ℕ) → is_playing u ≡ false → due_by u bs ≡ None
-due_none used.Blank bs h = refl
-due_none used.Recording bs h = refl
-due_none used.Stored bs h = refl
-due_none (used.Playing n m w k) bs h = absurd (true≢false h)
+stored_plays : (u : Use) (bs : List ℕ) (b : ℕ) → is_playing (stored_by u bs b).current ≡ is_playing u
+stored_plays Recording bs b = cond_both (ltb (length bs) 82) _ _ (λ (x : Reel). is_playing x.current ≡ false) (λ _. refl) (λ _. refl)
+stored_plays u bs b = refl
 
--- a host byte is read with nothing playing
-before_silent : (b : ℕ) (c : Core) → plays (before b c) ≡ false
-before_silent b c =
-    let e : plays (ended c) ≡ false =
-    cond_both (plays c) _ _ (λ (x : Core). plays x ≡ false) (λ _. stopped_plays c.tape.current c.tape.bytes) (λ h. h) in
-    cond_both (ended c).selected _ _ (λ (x : Core). plays x ≡ false)
-    (λ _. stored_plays (ended c).tape.current (ended c).tape.bytes b ∙ e) (λ _. e)
+wound_plays : (u : Use) (bs : List ℕ) → is_playing (wound_by u bs).current ≡ is_playing u
+wound_plays (Playing n m w k) bs =
+    cond_both (leb w 1) _ _ (λ (x : Reel). is_playing x.current ≡ true)
+    (λ _. cond_both (is_last k bs) _ _ (λ x. is_playing x ≡ true) (λ _. refl) (λ _. refl)) (λ _. refl)
+wound_plays u bs = refl
 
--- Ticks. While nothing plays, the lamp alone moves.
-silent_tick : (c : Core) → plays c ≡ false → (respond tick c).core ≡ ticked c
-silent_tick c h = ap (λ o. (played o (ticked c)).core) (due_none c.tape.current c.tape.bytes h)
+-- what does not play is left alone by ticks
+still : (u : Use) (bs : List ℕ) → is_playing u ≡ false → (due_by u bs ≡ None) × (wound_by u bs ≡ record { current = u; bytes = bs })
+still (Playing n m w k) bs h = absurd (true≢false h)
+still u bs h = (refl, refl)
 
--- While the macro plays, each of its bytes leaves it playing, or the reading at rest.
-data Onward (c : Core) : Type 0 where
-  playing : plays c ≡ true → Onward c
-  resting : c.reading ≡ Rest → Onward c
+-- a host byte is read with nothing playing, by the same settings, and as selected as before
+record Kept (c e : Core) : Type 0 where
+  settings : e.settings ≡ c.settings
+  selected : e.selected ≡ c.selected
+  silent : playing e ≡ false
 
-onward_far : (c : Core) (k : ℕ) → Onward c → far c ≤ k
-onward_far c k (playing h) =
-    subst (λ (x : Core). depth x.reading ≤ k) (sym (cond-true (plays c) _ c h)) (omega arith)
-onward_far c k (resting h) = ended_reading (λ r. depth r ≤ k) c (omega arith) (subst (λ r. depth r ≤ k) (sym h) (omega arith))
+ended_kept : (c : Core) → Kept c (ended c)
+ended_kept c =
+    cond_both (playing c) _ _ (Kept c)
+    (λ _. record { settings = refl; selected = refl; silent = stopped_plays c.tape.current c.tape.bytes })
+    (λ h. record { settings = refl; selected = refl; silent = h })
 
--- the act by the reader's step
-abbrev acts : Voice → Core → Step → Act
-acts v c s = obeyed (heard_as v s.outcome) (with_reading c s.next)
+before_kept : (b : ℕ) (c : Core) → Kept c (before b c)
+before_kept b c =
+    let e = ended c in
+    let k = ended_kept c in
+    cond_both e.selected _ _ (Kept c)
+    (λ _. record { settings = k.settings; selected = k.selected; silent = stored_plays e.tape.current e.tape.bytes b ∙ k.silent }) (λ _. k)
 
-acts_onward : {q : Reading} (v : Voice) (c : Core) (s : Step) → Stepped q s → plays c ≡ true → Onward (acts v c s).core
-acts_onward v c s (waits r f) h = playing h
-acts_onward v c s (completes d) h =
-    let k = obeyed_kept (heard_as v (Complete d)) (with_reading c Rest) in
-    resting (kept_reading (λ r. r ≡ Rest) (with_reading c Rest) (acts v c (done d)).core k refl refl)
-acts_onward v c s ignores h = resting refl
-acts_onward v c s (between n last code columns) h =
-    cond_both (c.selected || heeded v (Define code columns)) _ _ (λ (a : Act). Onward a.core) (λ _. playing h) (λ _. playing h)
-acts_onward v c s (malformed f) h = resting refl
+-- there is one set
+only : (d : Dialect) → d ≡ EscPos
+only EscPos = refl
 
-played_onward : (o : Option ℕ) (c : Core) → plays c ≡ true → Onward (played o c).core
-played_onward None c h = playing h
-played_onward (Some b) c h = acts_onward Macro c (step c.reading b) (stepped c.reading b) h
+module _ {R : Type 0} (reads : Reads R) (laws : SetsLaws reads) where
+  abbrev home : R
+  home = reads.rest EscPos
 
-tick_far : (c : Core) (k : ℕ) (t : Bool) → plays c ≡ t → far c ≤ k → far (respond tick c).core ≤ k
-tick_far c k true e h =
-    onward_far (respond tick c).core k (played_onward (due c.tape) (ticked c) (wound_plays c.tape.current c.tape.bytes ∙ e))
-tick_far c k false e h =
-    let d : depth c.reading ≤ k = subst (λ (x : Core). depth x.reading ≤ k) (not_ended c e) h in
-    subst (λ x. far x ≤ k) (sym (silent_tick c e)) (ended_reading (λ r. depth r ≤ k) (ticked c) (omega arith) d)
+  rested : (q : R) → reads.rest (reads.dialect q) ≡ home
+  rested q = ap reads.rest (only (reads.dialect q))
 
-calling_tick : (p : Preset) (s : State) (k : ℕ) → Calling p s k → Calling p (next s tick) k
-calling_tick p s k h = record { close = tick_far s.core k (plays s.core) refl h.close; sound = sound_next p s tick h.sound }
+  ended_home : (q : R) (b : ℕ) → ends (reads.step q b).outcome ≡ true → (reads.step q b).next ≡ home
+  ended_home q b e = (laws.rules q).rests b e ∙ rested q
 
-at_tick : (c : Core) (r : Reading) → At c r → At (respond tick c).core r
-at_tick c r h =
-    subst (λ x. At x r) (sym (silent_tick c h.silent))
-    (record { reading = h.reading; silent = wound_plays c.tape.current c.tape.bytes ∙ h.silent })
+  -- The reading that the host's next byte finds.
+  abbrev host : State R → R
+  host s = forgotten reads s.reading s.core
 
-ready_tick : (p : Preset) (s : State) (r : Reading) → Ready p s r → Ready p (next s tick) r
-ready_tick p s r h = record { at = at_tick s.core r h.at; sound = sound_next p s tick h.sound }
+  playing_home : (q : R) (c : Core) → playing c ≡ true → forgotten reads q c ≡ home
+  playing_home q c h = cond-true (playing c) _ q h ∙ rested q
 
-chosen_tick : (p : Preset) (s : State) (r : Reading) → Chosen p s r → Chosen p (next s tick) r
-chosen_tick p s r h = record {
-  ready = ready_tick p s r h.ready;
-  selected = ap (λ c. c.selected) (silent_tick s.core h.ready.at.silent) ∙ h.selected;
-}
+  resting_home : (q : R) (c : Core) → q ≡ home → forgotten reads q c ≡ home
+  resting_home q c e = cond_both (playing c) _ _ (λ x. x ≡ home) (λ _. rested q) (λ _. e)
 
-phase_tick : (p : Preset) (n : ℕ) (s : State) → Phase p n s → Phase p n (next s tick)
-phase_tick p zero s h = ap (λ x. next x tick) h
-phase_tick p (suc zero) s h = chosen_tick p s AfterEsc h
-phase_tick p (suc (suc zero)) s h = chosen_tick p s Rest h
-phase_tick p (suc (suc (suc zero))) s h = ready_tick p s SelectN h
-phase_tick p (suc (suc (suc (suc zero)))) s h = ready_tick p s AfterEsc h
-phase_tick p (suc (suc (suc (suc (suc zero))))) s h = calling_tick p s 0 h
-phase_tick p (suc (suc (suc (suc (suc (suc n)))))) s h = calling_tick p s (suc n) h
+  -- Only where an item ends can what is carried out begin or end a playback, and there the reading is at rest.
+  obeyed_host : (v : Voice) (q : R) (o : Outcome) (c : Core) → (ends o ≡ true → q ≡ home) → forgotten reads q (obeyed (heard_as v o) c).core ≡ forgotten reads q c
+  obeyed_host v q (Complete d) c e = resting_home q (obeyed (heard_as v (Complete d)) c).core (e refl) ∙ sym (resting_home q c (e refl))
+  obeyed_host v q (Partial n bs) c e =
+      cond_both (c.selected || heeded v (Define n bs)) _ _ (λ (a : Act). forgotten reads q a.core ≡ forgotten reads q c) (λ _. refl) (λ _. refl)
+  obeyed_host v q o c e = refl
 
--- 18h brings the display nearer to rest, whatever it completes.
-calling_byte : (p : Preset) (s : State) (k : ℕ) → Calling p s (suc k) → Calling p (next s (byte 0x18)) k
-calling_byte p s k h =
-    let c = before 0x18 s.core in
-    let fits = (before_well p 0x18 s.core h.sound.well).fits in
-    let near = before_reading (λ r. depth r ≤ suc k) 0x18 s.core h.close in
-    let nearer : depth (step c.reading 0x18).next ≤ k = depth_step c.reading fits k (omega (arith, near)) in
-    record {
-      close = ended_reading (λ r. depth r ≤ k) (next s (byte 0x18)).core (omega arith) (taken_reading (λ r. depth r ≤ k) Host 0x18 c (omega arith) nearer);
-      sound = sound_next p s (byte 0x18) h.sound;
-    }
+  -- So what the host's bytes are read as hangs on nothing but these bytes.
+  host_byte : (s : State R) (b : ℕ) → host (next reads s (byte b)) ≡ (reads.step (host s) b).next
+  host_byte s b =
+      let t = reads.step (host s) b in
+      let c = before b s.core in
+      obeyed_host Host t.next t.outcome c (ended_home (host s) b) ∙ cond-false (playing c) _ t.next (before_kept b s.core).silent
 
--- the host byte is read as far as the display is
-before_at : (b : ℕ) (c : Core) (r : Reading) → At c r → At (before b c) r
-before_at b c r h = record {
-  reading = before_reading (λ x. x ≡ r) b c (ap (λ x. x.reading) (not_ended c h.silent) ∙ h.reading);
-  silent = before_silent b c;
-}
+  played_home : (o : Option ℕ) (q : R) (c : Core) → playing c ≡ true → forgotten reads (played reads o q c).reading (played reads o q c).core ≡ home
+  played_home None q c h = playing_home q c h
+  played_home (Some b) q c h =
+      let t = reads.step q b in
+      obeyed_host Macro t.next t.outcome c (ended_home q b) ∙ playing_home t.next c h
 
-calling_at : (p : Preset) (s : State) (b : ℕ) → Calling p s 0 → At (before b s.core) Rest
-calling_at p s b h = record {
-  reading = before_reading (λ x. x ≡ Rest) b s.core (depth_zero (ended s.core).reading h.close);
-  silent = before_silent b s.core;
-}
+  -- while nothing plays, a tick moves the lamp alone
+  silent_tick : (s : State R) → playing s.core ≡ false → next reads s tick ≡ record s { core = record s.core { lamp = lamp_ticked s.core.lamp } }
+  silent_tick s h =
+      let e = still s.core.tape.current s.core.tape.bytes h in
+      λ i. let r = played reads (e.0 i) s.reading (record s.core { lamp = lamp_ticked s.core.lamp; tape = e.1 i }) in
+      record { reading = r.reading; core = r.core; glass = drawn_all r.strokes s.glass }
 
-before_selected : (b : ℕ) (c : Core) → (before b c).selected ≡ c.selected
-before_selected b c = ap (λ x. x.selected) (before_moved b c)
+  host_tick : (s : State R) → host (next reads s tick) ≡ host s
+  host_tick s =
+      let t = s.core.tape in
+      cond_both (playing s.core) s s (λ _. host (next reads s tick) ≡ host s)
+      (λ h. played_home (due t) s.reading (ticked s.core) (wound_plays t.current t.bytes ∙ h) ∙ sym (playing_home s.reading s.core h))
+      (λ h. ap host (silent_tick s h))
 
--- a byte after which the item goes on
-waiting : (c : Core) (b : ℕ) (r q : Reading) → At c r → step r b ≡ wait q → (taken Host b c).core ≡ with_reading c q
-waiting c b r q h w = ap (λ x. (acts Host c (step x b)).core) h.reading ∙ ap (λ x. (acts Host c x).core) w
+  -- what holds of a display all along
+  record Well (p : Preset) (s : State R) : Type 0 where
+    settings : s.core.settings ≡ p
+    forty : length s.glass ≡ 40
 
-waiting_at : (c : Core) (b : ℕ) (r q : Reading) → At c r → step r b ≡ wait q → At (taken Host b c).core q
-waiting_at c b r q h w = subst (λ x. At x q) (sym (waiting c b r q h w)) (record { reading = refl; silent = h.silent })
+  played_settings : (o : Option ℕ) (q : R) (c : Core) → (played reads o q c).core.settings ≡ c.settings
+  played_settings None q c = refl
+  played_settings (Some b) q c = obeyed_settings (heard_as Macro (reads.step q b).outcome) c
 
-ready_byte : (p : Preset) (s : State) (b : ℕ) (r q : Reading) → step r b ≡ wait q → At (before b s.core) r → Sound p s → Ready p (next s (byte b)) q
-ready_byte p s b r q w a h = record { at = waiting_at (before b s.core) b r q a w; sound = sound_next p s (byte b) h }
+  next_settings : (s : State R) (e : Event) → (next reads s e).core.settings ≡ s.core.settings
+  next_settings s (byte b) = obeyed_settings (heard_as Host (reads.step (host s) b).outcome) (before b s.core) ∙ (before_kept b s.core).settings
+  next_settings s tick = played_settings (due s.core.tape) s.reading (ticked s.core)
 
-chosen_byte : (p : Preset) (s : State) (b : ℕ) (r q : Reading) → step r b ≡ wait q → Chosen p s r → Chosen p (next s (byte b)) q
-chosen_byte p s b r q w h =
-    let a = before_at b s.core r h.ready.at in
-    record {
-      ready = ready_byte p s b r q w a h.ready.sound;
-      selected = ap (λ c. c.selected) (waiting (before b s.core) b r q a w) ∙ before_selected b s.core ∙ h.selected;
-    }
+  well_next : (p : Preset) (s : State R) (e : Event) → Well p s → Well p (next reads s e)
+  well_next p s e h = record { settings = next_settings s e ∙ h.settings; forty = drawn_all-length (reply reads e s).strokes s.glass ∙ h.forty }
 
--- ESC = is heeded, selected or not
-selects : (b : Bool) (c : Core) → (cond (b || true) (did (Select true) (effect Host (Select true) c)) (idle c)).core ≡ with_selected c true
-selects true c = refl
-selects false c = refl
+  well_after : (p : Preset) (s : State R) (es : List Event) → Well p s → Well p (after reads s es)
+  well_after p s [] h = h
+  well_after p s (e ∷ es) h = well_after p (next reads s e) es (well_next p s e h)
 
-select_byte : (p : Preset) (s : State) → Ready p s SelectN → Chosen p (next s (byte 0x02)) Rest
-select_byte p s h =
-    let c = before 0x02 s.core in
-    let a = before_at 0x02 s.core SelectN h.at in
-    let to : (taken Host 0x02 c).core ≡ with_selected (with_reading c Rest) true =
-    ap (λ r. (acts Host c (step r 0x02)).core) a.reading ∙ selects c.selected (with_reading c Rest) in
-    record {
-      ready = record { at = subst (λ x. At x Rest) (sym to) (record { reading = refl; silent = a.silent }); sound = sound_next p s (byte 0x02) h.sound };
-      selected = ap (λ x. x.selected) to;
-    }
+  module _ (p : Preset) where
+    -- events with these bytes make each display new of which P holds
+    abbrev Renews : (State R → Type 0) → List ℕ → Type 0
+    Renews P bs = (s : State R) (es : List Event) → Well p s → P s → bytes_of es ≡ bs → after reads s es ≡ new reads p
 
--- ESC @ is carried out, since the display is selected
-abbrev begun : Core → Bool → Reading → Act
-begun c b r = acts Host (with_selected c b) (step r 0x40)
+    no_byte : Renews (λ s. s ≡ new reads p) []
+    no_byte s [] w h e = h
+    no_byte s (tick ∷ es) w h e = no_byte (next reads s tick) es (well_next p s tick w) (ap (λ x. next reads x tick) h) e
+    no_byte s (byte b ∷ es) w h e = absurd (cc)
 
-init_byte : (p : Preset) (s : State) → Chosen p s AfterEsc → next s (byte 0x40) ≡ new p
-init_byte p s h =
-    let c = before 0x40 s.core in
-    let a = before_at 0x40 s.core AfterEsc h.ready.at in
-    let on = before_selected 0x40 s.core ∙ h.selected in
-    let to : taken Host 0x40 c ≡ begun c true AfterEsc = λ i. begun c (on i) (a.reading i) in
-    let none : ending s.core ≡ [] = cond-false (plays s.core) _ [] h.ready.at.silent in
-    let same = (before_well p 0x40 s.core h.ready.sound.well).settings in
-    state_path (next s (byte 0x40)) (new p)
-    (ap (λ x. x.core) to ∙ ap fresh same)
-    ((λ i. drawn_all (none i ++ drawn_by (to i).answer) s.glass) ∙ blank_whole s.glass h.ready.sound.forty)
+    -- ticks keep P, and the first byte makes Q of it
+    one_byte : (P Q : State R → Type 0) (b : ℕ) (bs : List ℕ) → ((s : State R) → P s → P (next reads s tick)) →
+        ((s : State R) → Well p s → P s → Q (next reads s (byte b))) → Renews Q bs → Renews P (b ∷ bs)
+    one_byte P Q b bs t k later s [] w h e = absurd (cc)
+    one_byte P Q b bs t k later s (tick ∷ es) w h e = one_byte P Q b bs t k later (next reads s tick) es (well_next p s tick w) (t s h) e
+    one_byte P Q b bs t k later s (byte a ∷ es) w h e =
+        let same : b ≡ a = cc in
+        later (next reads s (byte a)) es (well_next p s (byte a) w) (subst (λ x. Q (next reads s (byte x))) same (k s w h)) (cc)
 
-phase_byte : (p : Preset) (n : ℕ) (s : State) → Phase p (suc n) s → Phase p n (next s (byte (next_byte (suc n))))
-phase_byte p zero s h = init_byte p s h
-phase_byte p (suc zero) s h = chosen_byte p s 0x1B Rest AfterEsc refl h
-phase_byte p (suc (suc zero)) s h = select_byte p s h
-phase_byte p (suc (suc (suc zero))) s h = ready_byte p s 0x3D AfterEsc SelectN refl (before_at 0x3D s.core AfterEsc h.at) h.sound
-phase_byte p (suc (suc (suc (suc zero)))) s h = ready_byte p s 0x1B Rest AfterEsc refl (calling_at p s 0x1B h) h.sound
-phase_byte p (suc (suc (suc (suc (suc zero))))) s h = calling_byte p s 0 h
-phase_byte p (suc (suc (suc (suc (suc (suc n)))))) s h = calling_byte p s (suc n) h
+    -- the host's bytes have been read so far
+    abbrev At : R → State R → Type 0
+    At q s = host s ≡ q
 
-head_same : (a b : ℕ) (xs ys : List ℕ) → a ∷ xs ≡ b ∷ ys → a ≡ b
-head_same a b xs ys e = ap (λ zs. get_or zs 0 0) e
+    reads_on : (q : R) (bs cs : List ℕ) → Renews (At (run reads.step q bs)) cs → Renews (At q) (bs ++ cs)
+    reads_on q [] cs later = later
+    reads_on q (b ∷ bs) cs later =
+        let r = (reads.step q b).next in
+        one_byte (At q) (At r) b (bs ++ cs) (λ s h. host_tick s ∙ h) (λ s w h. host_byte s b ∙ ap (λ x. (reads.step x b).next) h) (reads_on r bs cs later)
 
-tail_same : (a b : ℕ) (xs ys : List ℕ) → a ∷ xs ≡ b ∷ ys → xs ≡ ys
-tail_same a b xs ys e = ap (λ zs. drop 1 zs) e
+    -- and the display is selected, with nothing playing
+    record Chosen (q : R) (s : State R) : Type 0 where
+      at : host s ≡ q
+      silent : playing s.core ≡ false
+      selected : s.core.selected ≡ true
 
-along : (p : Preset) (es : List Event) (n : ℕ) (s : State) → bytes_of es ≡ to_come n → Phase p n s → after s es ≡ new p
-along p [] zero s e h = h
-along p [] (suc n) s e h = absurd (let l : 0 ≡ length (to_come (suc n)) = ap length e in omega arith)
-along p (tick ∷ es) zero s e h = along p es zero (next s tick) e (phase_tick p zero s h)
-along p (tick ∷ es) (suc n) s e h = along p es (suc n) (next s tick) e (phase_tick p (suc n) s h)
-along p (byte b ∷ es) zero s e h = absurd (let l : length (b ∷ bytes_of es) ≡ 0 = ap length e in omega arith)
-along p (byte b ∷ es) (suc n) s e h =
-    along p es n (next s (byte b)) (tail_same b (next_byte (suc n)) (bytes_of es) (to_come n) e)
-    (subst (λ x. Phase p n (next s (byte x))) (sym (head_same b (next_byte (suc n)) (bytes_of es) (to_come n) e)) (phase_byte p n s h))
+    chosen_tick : (q : R) (s : State R) → Chosen q s → Chosen q (next reads s tick)
+    chosen_tick q s h = subst (Chosen q) (sym (silent_tick s h.silent)) (record { at = h.at; silent = h.silent; selected = h.selected })
 
-pub recalls : Recalls
-recalls p es rs e =
-    let s = after (new p) es in
-    let sound = sound_after p (new p) es (sound_new p) in
-    let six : far s.core ≤ 6 = ended_reading (λ r. depth r ≤ 6) s.core (omega arith) (depth_six s.core.reading sound.well.fits) in
-    after-append (new p) es rs ∙ along p rs 11 s e (record { close = six; sound = sound })
+    -- ESC = is heeded, selected or not
+    select_byte : (q : R) (b : ℕ) (s : State R) → reads.step q b ≡ to home (Complete (Select true)) → At q s → Chosen home (next reads s (byte b))
+    select_byte q b s says h =
+        let c = before b s.core in
+        let e : reads.step (host s) b ≡ to home (Complete (Select true)) = ap (λ x. reads.step x b) h ∙ says in
+        let core : (next reads s (byte b)).core ≡ record c { selected = true } =
+        ap (λ t. (obeyed (heard_as Host t.outcome) c).core) e ∙ ap (λ (a : Act). a.core) (cond-true (c.selected || true) _ _ (or-true c.selected)) in
+        record { at = host_byte s b ∙ ap (λ t. t.next) e; silent = ap playing core ∙ (before_kept b s.core).silent; selected = ap (λ x. x.selected) core }
+
+    pending_byte : (q : R) (b : ℕ) (s : State R) → (reads.step q b).outcome ≡ Pending → Chosen q s → Chosen (reads.step q b).next (next reads s (byte b))
+    pending_byte q b s waits h =
+        let c = before b s.core in
+        let k = before_kept b s.core in
+        let core : (next reads s (byte b)).core ≡ c = ap (λ o. (obeyed (heard_as Host o) c).core) (ap (λ x. (reads.step x b).outcome) h.at ∙ waits) in
+        record {
+          at = host_byte s b ∙ ap (λ x. (reads.step x b).next) h.at;
+          silent = ap playing core ∙ k.silent;
+          selected = ap (λ x. x.selected) core ∙ k.selected ∙ h.selected;
+        }
+
+    -- ESC @ is carried out, since the display is selected
+    initialize_byte : (q : R) (b : ℕ) (s : State R) → reads.step q b ≡ to home (Complete Initialize) → Well p s → Chosen q s → next reads s (byte b) ≡ new reads p
+    initialize_byte q b s says w h =
+        let c = before b s.core in
+        let k = before_kept b s.core in
+        let e : reads.step (host s) b ≡ to home (Complete Initialize) = ap (λ x. reads.step x b) h.at ∙ says in
+        let none : ending s.core ≡ [] = cond-false (playing s.core) _ [] h.silent in
+        let on : c.selected ≡ true = k.selected ∙ h.selected in
+        let same : c.settings ≡ p = k.settings ∙ w.settings in
+        (λ i. let a = obeyed (heard_as Host (e i).outcome) (record c { selected = on i; settings = same i }) in
+        record { reading = (e i).next; core = a.core; glass = drawn_all (none i ++ drawn_by a.answer) s.glass })
+        ∙ ap (λ g. record (new reads p) { glass = g }) (blank_whole s.glass w.forty)
+
+    begun : Renews (Chosen home) (0x1B ∷ 0x40 ∷ [])
+    begun =
+        let escape = (reads.step home 0x1B).next in
+        let says = subst (λ x. Says reads.step x x (0x1B ∷ 0x40 ∷ []) Initialize) (rested home) ((laws.rules home).initializes) in
+        one_byte (Chosen home) (Chosen escape) 0x1B (0x40 ∷ []) (chosen_tick home) (λ s w. pending_byte home 0x1B s says.0)
+        (one_byte (Chosen escape) (λ s. s ≡ new reads p) 0x40 [] (chosen_tick escape) (λ s. initialize_byte escape 0x40 s says.1) no_byte)
+
+    chosen : Renews (At home) (0x1B ∷ 0x3D ∷ 0x02 ∷ 0x1B ∷ 0x40 ∷ [])
+    chosen =
+        let q = run reads.step home (0x1B ∷ 0x3D ∷ []) in
+        let says = subst (λ x. Says reads.step x x (0x1B ∷ 0x3D ∷ 0x02 ∷ []) (Select true)) (rested home) ((laws.rules home).selects) in
+        reads_on home (0x1B ∷ 0x3D ∷ []) (0x02 ∷ 0x1B ∷ 0x40 ∷ [])
+        (one_byte (At q) (Chosen home) 0x02 (0x1B ∷ 0x40 ∷ []) (λ s h. host_tick s ∙ h) (λ s w. select_byte q 0x02 s says.1.1) begun)
+
+    -- six bytes 18h bring every reading to rest
+    recalled : (q : R) → Renews (At q) recall
+    recalled q =
+        let bs = 0x1B ∷ 0x3D ∷ 0x02 ∷ 0x1B ∷ 0x40 ∷ [] in
+        reads_on q six bs (subst (λ x. Renews (At x) bs) (sym ((laws.rules q).cancels ∙ rested q)) chosen)
+
+  pub recalls : Recalls reads
+  recalls p es rs e =
+      let s = after reads (new reads p) es in
+      after-append reads (new reads p) es rs ∙ recalled p (host s) s rs (well_after p (new reads p) es (record { settings = refl; forty = refl })) refl e

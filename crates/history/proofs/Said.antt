@@ -9,12 +9,12 @@ use Rattle.std.specs.Option.{option_eq}
 use Rattle.std.specs.Result.{result_eq}
 use mathlib.Core.Bool.{beq}
 use Rattle.std.proofs.lemmas.Bool.Decides.{Decides-eqb, Decides-and, Decides-like}
-use Rattle.reader.specs.declared.words.Mode.{Mode}
-use Rattle.reader.specs.declared.words.Mode.TheVariants.{Overwrite, Vertical, Horizontal}
-use Rattle.reader.specs.declared.words.Slot.{Slot}
-use Rattle.reader.specs.declared.words.Slot.TheVariants.{First, Second, Third, Fourth}
-use Rattle.reader.specs.contracts.words.SlotPartialEq.TheImpl as slot_eq
-use Rattle.reader.specs.contracts.words.ModePartialEq.TheImpl as mode_eq
+use Rattle.commands.specs.declared.words.Mode.{Mode}
+use Rattle.commands.specs.declared.words.Mode.TheVariants.{Overwrite, Vertical, Horizontal}
+use Rattle.commands.specs.declared.words.Slot.{Slot}
+use Rattle.commands.specs.declared.words.Slot.TheVariants.{First, Second, Third, Fourth}
+use Rattle.commands.specs.contracts.words.SlotPartialEq.TheImpl as slot_eq
+use Rattle.commands.specs.contracts.words.ModePartialEq.TheImpl as mode_eq
 use Rattle.state.specs.declared.controller.questions.Modes as modes
 use Rattle.state.specs.contracts.controller.questions.ModesPartialEq.TheImpl as modes_eq
 use Rattle.display.specs.declared.words.Answer.{Answer}

@@ -3,7 +3,8 @@ use Rattle.panel.specs.Laws.{Make}
 use Rattle.std.specs.Prelude.{◌≡◌, ℕ, ◌<◌, ◌≤◌, true, false, List, length, Some, ◌≢◌}
 use Rattle.glass.specs.declared.area.Area.{Area}
 use Rattle.glass.specs.Places.{holds, whole}
-use Rattle.reader.specs.declared.words.Slot.{Slot}
+use Rattle.commands.specs.declared.words.Slot.{Slot}
+use Rattle.commands.specs.Sets.{Reads}
 use Rattle.terms.specs.declared.fault.Fault.{Fault}
 use Rattle.state.specs.declared.tape.Use.{Use}
 use Rattle.state.specs.declared.tape.Use.TheVariants.{Blank, Recording, Stored, Playing}
@@ -11,7 +12,7 @@ use Rattle.terms.specs.Presets.{Preset}
 use Rattle.state.specs.Slots.{at, known, same}
 use Rattle.state.specs.Core.{Core, window}
 use Rattle.state.specs.Model.{Event, new, after}
-use Rattle.display.specs.declared.display.Display.{Display}
+use Rattle.display.specs.declared.engine.Display.{Display}
 use Rattle.display.specs.Calls.{view}
 use Rattle.history.specs.Lives.{Life}
 
@@ -33,10 +34,10 @@ pub record Bounded (c : Core) : Type 0 where
   pub sharing : (n m : Slot) (a b : Area) → same n m ≡ false → at c.layout.slots n ≡ Some a → at c.layout.slots m ≡ Some b →
       (x y : ℕ) → holds a x y ≡ true → holds b x y ≢ true
 
-module _ {P : Type 0} (make : Make P) where
+module _ {P R : Type 0} (make : Make P) (reads : Reads R) where
   pub record Bounds : Type 0 where
     -- Every display is bounded, so a display is at every moment of its life.
-    pub displays : (d : Display P) → Bounded (view make d).core
+    pub displays : (d : Display P R) → Bounded (view make d).core
     -- And so is the abstract display that is given the events of a life, when all of them are given.
-    pub lives : (settings : Preset) (es : List Event) (fs : List Fault) (d : Display P) →
-        Life make settings es fs d → Bounded (after (new settings) es).core
+    pub lives : (settings : Preset) (es : List Event) (fs : List Fault) (d : Display P R) →
+        Life make reads settings es fs d → Bounded (after reads (new reads settings) es).core

@@ -3,11 +3,11 @@ use Rattle.panel.specs.Laws.{Make}
 use Rattle.std.specs.Prelude.{◌≡◌, ℕ}
 use Rattle.display.specs.declared.words.Question.{Question}
 use Rattle.display.specs.declared.words.Question.TheVariants.{Cell, Cursor, Window, User, Macro, Lamp, Modes}
-use Rattle.display.specs.declared.display.Display.{Display}
+use Rattle.display.specs.declared.engine.Display.{Display}
 use Rattle.display.specs.Answers.{answer}
 use Rattle.display.specs.Calls.{view}
 
-module _ {P Q : Type 0} (make : Make P) (make' : Make Q) (a : Display P) (b : Display Q) where
+module _ {P Q R : Type 0} (make : Make P) (make' : Make Q) (a : Display P R) (b : Display Q R) where
   -- both answer a question alike
   abbrev pub AgreeOn : Question → Type 0
   AgreeOn q = answer (view make a) q ≡ answer (view make' b) q

@@ -6,3 +6,4 @@ pub mod History
 pub mod Bounds
 pub mod Replays
 pub mod Compared
+pub mod Named

@@ -2,9 +2,10 @@
 use Rattle.panel.specs.Laws.{Make, Reached}
 use Rattle.std.specs.Prelude.{◌≡◌, List, [], ◌∷◌, ◌++◌}
 use Rattle.std.specs.List.{flat_map}
+use Rattle.commands.specs.Sets.{Reads}
 use Rattle.terms.specs.declared.fault.Fault.{Fault}
 use Rattle.state.specs.Model.{Event, byte, tick}
-use Rattle.display.specs.declared.display.Display.{Display}
+use Rattle.display.specs.declared.engine.Display.{Display}
 use Rattle.history.specs.declared.replay.words.Happening.{Happening}
 use Rattle.history.specs.declared.replay.words.Happening.TheVariants.{Byte, Tick, Painted}
 use Rattle.history.specs.Lives.{Calls}
@@ -30,9 +31,10 @@ module _ {P : Type 0} (make : Make P) where
     on : {q : P} → Reached make.puts p q → Handled p [] q
     then : {q r : P} {hs : List Happening} (h : Happening) → Handled p hs q → Handles h q r → Handled p (hs ++ h ∷ []) r
 
+module _ {P R : Type 0} (make : Make P) (reads : Reads R) where
   -- A display accepts the event, by calls, and the faults that they give are added to those collected before.
-  pub record Happens (h : Happening) (d : Display P) (before : List Fault) (d' : Display P) (all : List Fault) : Type 0 where
+  pub record Happens (h : Happening) (d : Display P R) (before : List Fault) (d' : Display P R) (all : List Fault) : Type 0 where
     pub given : List Fault
-    pub calls : Calls make d (event_of h) given d'
+    pub calls : Calls make reads d (event_of h) given d'
     pub joined : all ≡ before ++ given
-    pub panel : Handles h d.panel d'.panel
+    pub panel : Handles make h d.panel d'.panel

@@ -4,12 +4,17 @@ ghost use Rattle.display.specs.declared.words.Question.TheVariants.{Cell};
 ghost use Rattle.history.specs.History.{History, Tells};
 ghost use Rattle.history.specs.Compared.{AgreeOn, AgreeOnGlass, AgreeOnWindows, AgreeOnUsers, AgreeOnMacro, AgreeOnTables, AgreeOnRest, AgreeInParts, Agree};
 
-use display::display::Display;
+use commands::sets::CommandSets;
+use display::engine::Display;
 use display::words::Question;
 use panel::Panel;
 use terms::fault::Fault;
 
-fn same_at<P: Panel, Q: Panel>(a: &Display<P>, b: &Display<Q>, question: Question) -> bool
+fn same_at<P: Panel, Q: Panel, S: CommandSets>(
+    a: &Display<P, S>,
+    b: &Display<Q, S>,
+    question: Question,
+) -> bool
     ensures { Decides result (AgreeOn P.make Q.make a.now b.now question) }
 {
     // By `==` of the two results, which are copied for it, a long life takes a fifth longer.
@@ -21,7 +26,11 @@ fn same_at<P: Panel, Q: Panel>(a: &Display<P>, b: &Display<Q>, question: Questio
 }
 
 // (Here and below a loop and no `all`, whose proof would need the closure's contract by hand.)
-fn same_row<P: Panel, Q: Panel>(a: &Display<P>, b: &Display<Q>, row: u8) -> bool
+fn same_row<P: Panel, Q: Panel, S: CommandSets>(
+    a: &Display<P, S>,
+    b: &Display<Q, S>,
+    row: u8,
+) -> bool
     ensures { Decides result ((x : ℕ) → AgreeOn P.make Q.make a.now b.now (Cell x row)) }
 {
     for column in 1..=20 {
@@ -33,14 +42,14 @@ fn same_row<P: Panel, Q: Panel>(a: &Display<P>, b: &Display<Q>, row: u8) -> bool
 }
 
 // Off the two rows, and beside the twenty columns, both refuse.
-fn same_glass<P: Panel, Q: Panel>(a: &Display<P>, b: &Display<Q>) -> bool
+fn same_glass<P: Panel, Q: Panel, S: CommandSets>(a: &Display<P, S>, b: &Display<Q, S>) -> bool
     ensures { Decides result (AgreeOnGlass P.make Q.make a.now b.now) }
 {
     same_row(a, b, 1) && same_row(a, b, 2)
 }
 
 // Above window 4 there is none.
-fn same_windows<P: Panel, Q: Panel>(a: &Display<P>, b: &Display<Q>) -> bool
+fn same_windows<P: Panel, Q: Panel, S: CommandSets>(a: &Display<P, S>, b: &Display<Q, S>) -> bool
     ensures { Decides result (AgreeOnWindows P.make Q.make a.now b.now) }
 {
     for number in 0..=4 {
@@ -51,7 +60,7 @@ fn same_windows<P: Panel, Q: Panel>(a: &Display<P>, b: &Display<Q>) -> bool
     true
 }
 
-fn same_users<P: Panel, Q: Panel>(a: &Display<P>, b: &Display<Q>) -> bool
+fn same_users<P: Panel, Q: Panel, S: CommandSets>(a: &Display<P, S>, b: &Display<Q, S>) -> bool
     ensures { Decides result (AgreeOnUsers P.make Q.make a.now b.now) }
 {
     for code in 0..=255 {
@@ -63,7 +72,7 @@ fn same_users<P: Panel, Q: Panel>(a: &Display<P>, b: &Display<Q>) -> bool
 }
 
 // A macro has eighty bytes at most.
-fn same_macro<P: Panel, Q: Panel>(a: &Display<P>, b: &Display<Q>) -> bool
+fn same_macro<P: Panel, Q: Panel, S: CommandSets>(a: &Display<P, S>, b: &Display<Q, S>) -> bool
     ensures { Decides result (AgreeOnMacro P.make Q.make a.now b.now) }
 {
     for index in 0..=80 {
@@ -74,7 +83,7 @@ fn same_macro<P: Panel, Q: Panel>(a: &Display<P>, b: &Display<Q>) -> bool
     true
 }
 
-fn same_rest<P: Panel, Q: Panel>(a: &Display<P>, b: &Display<Q>) -> bool
+fn same_rest<P: Panel, Q: Panel, S: CommandSets>(a: &Display<P, S>, b: &Display<Q, S>) -> bool
     ensures { Decides result (AgreeOnRest P.make Q.make a.now b.now) }
 {
     same_at(a, b, Question::Cursor)
@@ -82,23 +91,23 @@ fn same_rest<P: Panel, Q: Panel>(a: &Display<P>, b: &Display<Q>) -> bool
         && same_at(a, b, Question::Modes)
 }
 
-fn same_tables<P: Panel, Q: Panel>(a: &Display<P>, b: &Display<Q>) -> bool
+fn same_tables<P: Panel, Q: Panel, S: CommandSets>(a: &Display<P, S>, b: &Display<Q, S>) -> bool
     ensures { Decides result (AgreeOnTables P.make Q.make a.now b.now) }
 {
     same_windows(a, b) && same_users(a, b) && same_macro(a, b)
 }
 
-fn same_parts<P: Panel, Q: Panel>(a: &Display<P>, b: &Display<Q>) -> bool
+fn same_parts<P: Panel, Q: Panel, S: CommandSets>(a: &Display<P, S>, b: &Display<Q, S>) -> bool
     ensures { Decides result (AgreeInParts P.make Q.make a.now b.now) }
 {
     same_glass(a, b) && same_tables(a, b) && same_rest(a, b)
 }
 
 // Whether two displays, over panels of any make, answer every question alike, and so show the same glass.
-pub fn same<P: Panel, Q: Panel>(a: &Display<P>, b: &Display<Q>) -> bool
+pub fn same<P: Panel, Q: Panel, S: CommandSets>(a: &Display<P, S>, b: &Display<Q, S>) -> bool
     ensures answers { Decides result (Agree P.make Q.make a.now b.now) }
     ensures glass { result ≡ true → P.make.cells a.now.panel ≡ Q.make.cells b.now.panel }
-    ensures history { History P.make Q.make }
+    ensures history { History P.make Q.make S.reads }
 {
     same_parts(a, b)
 }
@@ -113,15 +122,15 @@ pub fn same_faults(a: &[Fault], b: &[Fault]) -> bool
 
 // Whether two displays, over panels of any make, show the same, and their faults are the same: as they always are where
 // both lived the same events with the same settings.
-pub fn same_lives<P: Panel, Q: Panel>(
-    a: &Display<P>,
+pub fn same_lives<P: Panel, Q: Panel, S: CommandSets>(
+    a: &Display<P, S>,
     gave: &[Fault],
-    b: &Display<Q>,
+    b: &Display<Q, S>,
     given: &[Fault],
 ) -> bool
     ensures answers { Decides result (Agree P.make Q.make a.now b.now × (gave.now ≡ given.now)) }
-    ensures twins { Tells P.make Q.make a.now gave.now b.now given.now result }
-    ensures history { History P.make Q.make }
+    ensures twins { Tells P.make Q.make S.reads a.now gave.now b.now given.now result }
+    ensures history { History P.make Q.make S.reads }
 {
     same(a, b) && same_faults(gave, given)
 }

@@ -3,10 +3,14 @@ ghost use Rattle.std.specs.Prelude.{◌≡◌, ◌++◌, IfOk, OnOk};
 ghost use Rattle.state.specs.Model.{fault_of};
 ghost use Rattle.terms.specs.Presets.{preset};
 ghost use Rattle.history.specs.Lives.{Life};
+ghost use Rattle.history.specs.Bounds.{Bounds};
 ghost use Rattle.history.specs.History.{History};
+ghost use Rattle.history.specs.Malformed.{Malformed};
+ghost use Rattle.history.specs.Named.{Named};
 ghost use Rattle.history.specs.Replays.{Handled, Happens, events_of};
 
-use display::display::Display;
+use commands::sets::CommandSets;
+use display::engine::Display;
 use list::BoundedList;
 use panel::Panel;
 use std::alloc::{AllocError, Global};
@@ -27,12 +31,12 @@ fn collect(faults: &mut Vec<Fault>, fault: Option<Fault>) -> Result<(), AllocErr
 }
 
 // A byte is a piece of its own, and two places are enough for its faults.
-fn give_byte<P: Panel>(
-    display: &mut Display<P>,
+fn give_byte<P: Panel, S: CommandSets>(
+    display: &mut Display<P, S>,
     byte: u8,
     faults: &mut Vec<Fault>,
 ) -> Result<(), AllocError>
-    ensures { OnOk result (Happens P.make (Happening.Byte byte) display.old faults.old.items display.new faults.new.items) }
+    ensures { OnOk result (Happens P.make S.reads (Happening.Byte byte) display.old faults.old.items display.new faults.new.items) }
 {
     let mut places = [UNUSED; 2];
     let mut list = BoundedList::over(&mut places);
@@ -40,12 +44,12 @@ fn give_byte<P: Panel>(
     faults.extend_from_slice(list.as_slice())
 }
 
-fn happen<P: Panel>(
-    display: &mut Display<P>,
+fn happen<P: Panel, S: CommandSets>(
+    display: &mut Display<P, S>,
     happening: Happening,
     faults: &mut Vec<Fault>,
 ) -> Result<(), AllocError>
-    ensures { OnOk result (Happens P.make happening display.old faults.old.items display.new faults.new.items) }
+    ensures { OnOk result (Happens P.make S.reads happening display.old faults.old.items display.new faults.new.items) }
 {
     match happening {
         Happening::Byte { byte } => give_byte(display, byte, faults),
@@ -58,15 +62,18 @@ fn happen<P: Panel>(
 }
 
 // Switches a new display on and gives it a script, each byte as a piece of its own; the faults are collected in order.
-pub fn replay<P: Panel + Drop>(
+pub fn replay<P: Panel + Drop, S: CommandSets>(
     heap: Global,
     settings: Settings,
     panel: P,
     script: &[Happening],
-) -> Result<Replayed<P>, AllocError>
-    ensures lived { IfOk result (λ x. Life P.make (preset settings) (events_of script.now) x.faults.items x.display) }
+) -> Result<Replayed<P, S>, AllocError>
+    ensures lived { IfOk result (λ x. Life P.make S.reads (preset settings) (events_of script.now) x.faults.items x.display) }
     ensures panel { IfOk result (λ x. Handled P.make panel script.now x.display.panel) }
-    ensures history { History P.make P.make }
+    ensures history { History P.make P.make S.reads }
+    ensures malformed { Malformed S.reads }
+    ensures bounds { Bounds P.make S.reads }
+    ensures named { Named P.make S.reads }
 {
     let mut display = Display::switch_on(settings, panel);
     let mut faults = Vec::new(heap);

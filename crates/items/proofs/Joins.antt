@@ -1,55 +1,54 @@
 -- What the parts handed out so far are, joined.
--- Assumes nothing.
 use Rattle.std.proofs.Common.{◌≡◌, ℕ, ◌+◌, ◌≤◌, List, [], ◌∷◌, ◌++◌, length, drop, Bor, sym, ap, ◌∙◌, subst, append_assoc, append-nil, arith, take-append-drop, length-take-le}
 use Rattle.std.specs.Iterator.{Yields, DrainsIf}
 use Rattle.std.specs.List.{flat_map}
 use Rattle.std.proofs.lemmas.List.{drop_all, drop-drop}
-use Rattle.reader.specs.declared.words.Reading.{Reading}
-use Rattle.reader.specs.declared.words.Reading.TheVariants.{Rest}
-use Rattle.reader.specs.Steps.{step}
+use Rattle.commands.specs.Sets.{Reads}
 use Rattle.items.specs.declared.parts.Part.{Part}
 use Rattle.items.specs.Extents.{extent_of}
 use Rattle.items.specs.declared.parts.Items.{Items}
 use Rattle.items.specs.Hands.{Hands}
 use Rattle.items.specs.Handed.{PartAt, bytes_of, Walked}
 
--- an item lies within the bytes
-size_within : (r : Reading) (bs : List ℕ) → (extent_of r bs).size ≤ length bs
-size_within r [] = omega arith
-size_within r (b ∷ bs) = grind (arith, size_within (step r b).next bs)
+module _ {R : Type 0} (reads : Reads R) where
+  -- an item lies within the bytes
+  size_within : (r : R) (bs : List ℕ) → (extent_of reads r bs).size ≤ length bs
+  size_within r [] = omega arith
+  size_within r (b ∷ bs) = grind (arith, size_within (reads.step r b).next bs)
 
-module _ (bs : List ℕ) (at : ℕ) (p : Part) (next : ℕ) (part : PartAt bs at p next) where
-  front : bytes_of p ++ drop next bs ≡ drop at bs
-  front =
-      let n = (extent_of Rest (drop at bs)).size in
-      rw part.bytes (rw part.next_is (rw (sym (drop-drop n at bs)) (take-append-drop n (drop at bs))))
+  module _ (rest : R) (bs : List ℕ) (at : ℕ) (p : Part) (next : ℕ) (part : PartAt reads rest bs at p next) where
+    front : bytes_of p ++ drop next bs ≡ drop at bs
+    front =
+        let n = (extent_of reads rest (drop at bs)).size in
+        rw part.bytes (rw part.next_is (rw (sym (drop-drop n at bs)) (take-append-drop n (drop at bs))))
 
-  pub long : length (bytes_of p) + at ≡ next
-  long = grind (arith, size_within, length-take-le, part.bytes, part.next_is)
+    pub long : length (bytes_of p) + at ≡ next
+    long = grind (arith, size_within, length-take-le, part.bytes, part.next_is)
 
--- the parts that calls handed out stand one after the other, and the buffer is kept
-yields_walked :
-    (bs : List ℕ) (s : Items) (ps : List Part) (t : Items) →
-    s.buffer.now ≡ bs → Yields Hands s ps t → Walked bs s.at ps t.at × (t.buffer.now ≡ bs)
-yields_walked bs s [] t same e = (ap (λ (i : Items). i.at) e, ap (λ (i : Items). i.buffer.now) (sym e) ∙ same)
-yields_walked bs s (p ∷ ps) t same (j, h, y) =
-    let rest = yields_walked bs j ps t (ap (λ x. x.now) h.same ∙ same) y in
-    ((j.at, subst (λ b. PartAt b s.at p j.at) same h.item, rest.0), rest.1)
+  -- the parts that calls handed out stand one after the other, and the buffer is kept
+  yields_walked :
+      (rest : R) (bs : List ℕ) (s : Items R) (ps : List Part) (t : Items R) →
+      s.rest ≡ rest → s.buffer.now ≡ bs → Yields (Hands reads) s ps t → Walked reads rest bs s.at ps t.at × (t.buffer.now ≡ bs)
+  yields_walked rest bs s [] t begins same e = (ap (λ (i : Items R). i.at) e, ap (λ (i : Items R). i.buffer.now) (sym e) ∙ same)
+  yields_walked rest bs s (p ∷ ps) t begins same (j, h, y) =
+      let walked = yields_walked rest bs j ps t (h.rest ∙ begins) (ap (λ x. x.now) h.buffer ∙ same) y in
+      let part = subst (λ r. PartAt reads r s.buffer.now s.at p j.at) begins h.item in
+      ((j.at, subst (λ b. PartAt reads rest b s.at p j.at) same part, walked.0), walked.1)
 
--- what a new reader hands out up to the end are all items of the buffer
-pub drained :
-    (b : Bor (List ℕ)) (s : Items) (ps : List Part) →
-    (s.buffer ≡ b) × (s.at ≡ 0) → DrainsIf Hands (Unit {0}) s ps → Walked b.now 0 ps (length b.now)
-drained b s ps (same, at) (t, yields, ends) =
-    let walked = yields_walked b.now s ps t (ap (λ x. x.now) same) yields in
-    let long = ap length walked.1 in
-    let reached : t.at ≡ length b.now = omega (arith, (ends tt).1.item.0, t.ok) in
-    subst (λ n. Walked b.now n ps (length b.now)) at (subst (Walked b.now s.at ps) reached walked.0)
+  -- what a new reader hands out up to the end are all items of the buffer
+  pub drained :
+      (b : Bor (List ℕ)) (rest : R) (s : Items R) (ps : List Part) →
+      (s.buffer ≡ b) × (s.at ≡ 0) × (s.rest ≡ rest) → DrainsIf (Hands reads) (Unit {0}) s ps → Walked reads rest b.now 0 ps (length b.now)
+  drained b rest s ps (same, at, begins) (t, yields, ends) =
+      let walked = yields_walked rest b.now s ps t begins (ap (λ x. x.now) same) yields in
+      let long = ap length walked.1 in
+      let reached : t.at ≡ length b.now = omega (arith, (ends tt).1.item.0, t.ok) in
+      subst (λ n. Walked reads rest b.now n ps (length b.now)) at (subst (Walked reads rest b.now s.at ps) reached walked.0)
 
-joined_from : (bs : List ℕ) (at : ℕ) (ps : List Part) (to : ℕ) → Walked bs at ps to → flat_map bytes_of ps ++ drop to bs ≡ drop at bs
-joined_from bs at [] to e = ap (λ k. drop k bs) (sym e)
-joined_from bs at (p ∷ ps) to w = grind (arith, append_assoc, joined_from bs w.0 ps to w.2, front bs at p w.0 w.1)
+  joined_from : (rest : R) (bs : List ℕ) (at : ℕ) (ps : List Part) (to : ℕ) → Walked reads rest bs at ps to → flat_map bytes_of ps ++ drop to bs ≡ drop at bs
+  joined_from rest bs at [] to e = ap (λ k. drop k bs) (sym e)
+  joined_from rest bs at (p ∷ ps) to w = grind (arith, append_assoc, joined_from rest bs w.0 ps to w.2, front rest bs at p w.0 w.1)
 
--- the items of a whole buffer, joined, are the buffer
-pub parts_join : (bs : List ℕ) (ps : List Part) → Walked bs 0 ps (length bs) → flat_map bytes_of ps ≡ bs
-parts_join bs ps w = grind (arith, append-nil, drop_all, joined_from bs 0 ps (length bs) w)
+  -- the items of a whole buffer, joined, are the buffer
+  pub parts_join : (rest : R) (bs : List ℕ) (ps : List Part) → Walked reads rest bs 0 ps (length bs) → flat_map bytes_of ps ≡ bs
+  parts_join rest bs ps w = grind (arith, append-nil, drop_all, joined_from rest bs 0 ps (length bs) w)

@@ -1,5 +1,4 @@
 -- The numbers by which kinds are told.
--- Assumes nothing.
 use Rattle.std.specs.Prelude.{ℕ}
 use Rattle.items.specs.declared.kinds.Kind.{Kind}
 use Rattle.items.specs.declared.kinds.Kind.TheVariants.{Character, Command, Ignored, Faulty, Unfinished}

@@ -2,9 +2,12 @@
 ghost use Rattle.std.specs.Prelude.{◌≡◌};
 ghost use Rattle.items.specs.Kinds.{kind_number};
 
+/// What an item is.
 #[derive(Clone, Copy, Debug, PartialEq, Eq)]
 pub enum Kind {
+    // a plain character, of one byte
     Character = 1,
+    // a whole command; a character with a mark is one
     Command = 2,
     // a byte that is ignored at rest
     Ignored = 3,

@@ -10,6 +10,7 @@ pub(crate) struct Extent {
     pub(crate) kind: Kind,
 }
 
+/// An item: the place where it starts, from 0, its kind, and its bytes, at least one.
 #[derive(Clone, Copy, Debug, PartialEq, Eq)]
 pub struct Part<'a> {
     pub place: usize,
@@ -17,10 +18,13 @@ pub struct Part<'a> {
     pub bytes: &'a [u8],
 }
 
-// The items of a buffer from the place `at` on. (The whole buffer and no rest of it: the place is told with each part.)
+/// The items of a buffer from a place on, read by command sets of the type `S`.
 #[derive(Drop)]
-pub struct Items<'a> {
+pub struct Items<'a, S> {
+    // the whole buffer and not what is left of it: the place is told with each part
     pub(crate) buffer: &'a [u8],
     pub(crate) at: usize,
+    // the reading at which each item begins
+    pub(crate) rest: S,
     ghost ok: { at ≤ length buffer.now },
 }

@@ -1,11 +1,13 @@
 // Items of short buffers, each by its place, its length and its kind.
 use crate::kinds::Kind;
 use crate::parts::Items;
+use commands::words::Dialect;
+use sets::Commands;
 use std::process::Abort;
 use std::test::Fail;
 
 fn reads(rt: &impl Abort, buffer: &[u8], expected: &[(usize, usize, Kind)]) -> Result<(), Fail> {
-    let mut items = Items::new(buffer);
+    let mut items = Items::<Commands>::new(buffer, Dialect::EscPos);
     for item in expected {
         let part = items.next().ok_or("an item is missing")?;
         assert_eq!(rt; (part.place, part.bytes.len(), part.kind), *item);

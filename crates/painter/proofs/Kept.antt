@@ -3,8 +3,9 @@ use Rattle.std.proofs.Common.{◌≡◌, ℕ, Bool, true, false, cond, ◌⊎◌
 use Rattle.std.proofs.lemmas.Bool.{false≢true}
 use Rattle.list.specs.declared.list.BoundedList.{BoundedList}
 use Rattle.panel.specs.Laws.{none}
+use Rattle.commands.specs.Sets.{Reads}
 use Rattle.terms.specs.declared.fault.Fault.{Fault}
-use Rattle.display.specs.declared.display.Display.{Display}
+use Rattle.display.specs.declared.engine.Display.{Display}
 use Rattle.display.specs.declared.words.FeedRefusal.{FeedRefusal}
 use Rattle.display.specs.Calls.{feed_cause, Accepts, Refuses}
 use Rattle.strip.specs.declared.strip.StripPanel.{StripPanel}
@@ -15,19 +16,20 @@ use Rattle.strip.proofs.Waiting.{keeps_waiting}
 use Rattle.painter.specs.Held.{HoldsWaiting}
 use Rattle.painter.specs.Screen.{Current, ScreenShows}
 
-feeds_keeps : (o : Option FeedRefusal) (d d' : Display StripPanel) (piece : List ℕ) (l l' : BoundedList Fault) (r : Result ℕ FeedRefusal) →
-    MatchOption o (Accepts strip d piece l r d' l') (λ e. Refuses strip e d l r d' l') → Kept d.panel d'.panel
-feeds_keeps None d d' piece l l' r h = keeps_waiting d.panel d'.panel h.reached
-feeds_keeps (Some e) d d' piece l l' r h = subst (λ x. Kept d.panel x.panel) (sym h.display) (keeps_waiting d.panel d.panel none)
+module _ {R : Type 0} (reads : Reads R) where
+  feeds_keeps : (o : Option FeedRefusal) (d d' : Display StripPanel R) (piece : List ℕ) (l l' : BoundedList Fault) (r : Result ℕ FeedRefusal) →
+      MatchOption o (Accepts strip reads d piece l r d' l') (λ e. Refuses strip reads e d l r d' l') → Kept d.panel d'.panel
+  feeds_keeps None d d' piece l l' r h = keeps_waiting d.panel d'.panel h.reached
+  feeds_keeps (Some e) d d' piece l l' r h = subst (λ x. Kept d.panel x.panel) (sym h.display) (keeps_waiting d.panel d.panel none)
 
-pub holds_waiting : HoldsWaiting
-holds_waiting = record {
-  on = λ settings p d h. keeps_waiting p d.panel h.reached;
-  fed = λ d d' piece l l' r h. feeds_keeps (feed_cause piece l) d d' piece l l' r h;
-  ticked = λ d d' r h. keeps_waiting d.panel d'.panel h.reached;
-  painted = λ d d' h. h.panel;
-  off = λ d p h. h;
-}
+  pub holds_waiting : HoldsWaiting reads
+  holds_waiting = record {
+    on = λ settings p d h. keeps_waiting p d.panel h.reached;
+    fed = λ d d' piece l l' r h. feeds_keeps (feed_cause piece l) d d' piece l l' r h;
+    ticked = λ d d' r h. keeps_waiting d.panel d'.panel h.reached;
+    painted = λ d d' h. h.panel;
+    off = λ d p h. h;
+  }
 
 shows : (b : Bool) (screen : List ℕ) (s : StripPanel) → (b ≡ false → screen ≡ picture_of s) → cond b (cells_of s) (merged screen (waiting_of s)) ≡ cells_of s
 shows true screen s h = refl

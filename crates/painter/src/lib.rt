@@ -6,7 +6,8 @@ ghost use Rattle.strip.specs.Strip.{waiting_of};
 ghost use Rattle.painter.specs.Held.{HoldsWaiting};
 ghost use Rattle.painter.specs.Screen.{ScreenShows, painted_over};
 
-use display::display::Display;
+use commands::sets::CommandSets;
+use display::engine::Display;
 use glass::area::PLACES;
 use panel::draw::cells;
 use strip::{Change, StripPanel};
@@ -18,10 +19,10 @@ pub struct Pending {
     pub all: bool,
 }
 
-pub fn waiting(display: &Display<StripPanel<'_>>) -> Pending
+pub fn waiting<S: CommandSets>(display: &Display<StripPanel<'_>, S>) -> Pending
     ensures count { result.count ≡ length (waiting_of display.now.panel) }
     ensures flag { result.all ≡ display.now.panel.all }
-    ensures held { HoldsWaiting }
+    ensures held { HoldsWaiting S.reads }
     ensures screen { ScreenShows }
 {
     let panel = display.panel();

@@ -1,8 +1,9 @@
 // The answers to single lines, as they are printed.
+use commands::words::Name;
 use display::words::Answer;
 use glass::area::{Area, PLACES, Position};
 use std::fmt;
-use terms::fault::Fault;
+use terms::fault::{Fault, Report};
 
 // The answer to a question.
 #[derive(Clone, Copy)]
@@ -40,15 +41,13 @@ pub struct ToldFault(pub Fault);
 
 impl fmt::Display for ToldFault {
     fn fmt<W: fmt::Write>(&self, f: &mut fmt::Formatter<W>) -> fmt::Result {
-        let inner = self.0.inner();
-        let cause = inner.cause();
-        let first = inner.first();
-        let second = inner.second();
-        let operand = inner.operand();
-        let speaker = match self.0 {
-            Fault::Said { .. } => "host",
-            Fault::Played { .. } => "played",
-        };
+        let Report {
+            cause,
+            name: Name { first, second },
+            operand,
+            played,
+        } = self.0.report();
+        let speaker = if played { "played" } else { "host" };
         write!(f, "fault {cause} {first} {second} {operand} {speaker}")
     }
 }

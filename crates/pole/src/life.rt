@@ -1,5 +1,5 @@
 // A display that is on, with all that it was given since, and what the makes of its panel differ in.
-use display::display::Display;
+use display::Display;
 use history::compare::same_lives;
 use history::replay::{Happening, replay};
 use painter::{Pending, waiting};

@@ -5,8 +5,9 @@ ghost use Rattle.pole.specs.Left.{NoMore};
 use crate::answers::{Glass, Told, ToldFault};
 use crate::life::{Life, Made};
 use crate::show::Picture;
-use display::display::Display;
-use display::display::calls::LONGEST;
+use commands::words::Dialect;
+use display::Display;
+use display::engine::LONGEST;
 use display::words::Question;
 use history::replay::Happening;
 use items::walk::walk;
@@ -18,6 +19,7 @@ use requests::parse::request;
 use requests::requests::{Make, Mistake, Request};
 use script::lines::Lines;
 use script::words::{after_first, hex_bytes, words};
+use sets::Commands;
 use strip::{NO_CHANGE, StripPanel};
 use terms::fault::{Fault, UNUSED};
 use terms::settings::Settings;
@@ -132,7 +134,7 @@ impl<'r> Play<'r> {
         let Some(bytes) = hex_bytes(heap, line.operands())? else {
             return self.error(line, Mistake::NoByte);
         };
-        for part in walk(heap, bytes.as_slice())?.iter() {
+        for part in walk::<Commands>(heap, bytes.as_slice(), Dialect::EscPos)?.iter() {
             let place = part.place;
             let length = part.bytes.len();
             let kind = u8::from(part.kind);

@@ -1,11 +1,11 @@
 // The picture of a display: a frame, in it for each row a line of characters and under it a line of their marks, and
 // then the state in a line.
-use display::display::Display;
+use commands::words::Mode;
+use display::Display;
 use display::words::{Answer, Question};
 use glass::area::COLUMNS;
 use panel::Panel;
 use panel::draw::cells;
-use reader::words::Mode;
 use script::cells::{glyph, sign};
 use state::controller::questions::Modes;
 use std::fmt;

@@ -1,6 +1,6 @@
 // The rows panel in a display, beside the library's own makes.
 use crate::RowsPanel;
-use display::display::Display;
+use display::Display;
 use history::compare::same;
 use list::BoundedList;
 use panel::{Panel, PlainPanel};

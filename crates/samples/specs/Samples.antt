@@ -1,8 +1,10 @@
 -- Worked runs: what is given to a new display with set 0, table 0 and brightness 4, and what it must show then.
 use Rattle.std.specs.Prelude.{◌≡◌, ℕ, List, [], ◌∷◌, ◌++◌, map, replicate}
 use Rattle.terms.specs.declared.fault.Fault.{Fault}
-use Rattle.terms.specs.Faults.{inner, display_cause, display_first, display_second, display_operand}
+use Rattle.terms.specs.declared.fault.Report.{Report}
+use Rattle.terms.specs.Faults.{report}
 use Rattle.terms.specs.Presets.{Preset}
+use Rattle.sets.specs.Joined.{reads}
 use Rattle.state.specs.Model.{Event, byte, tick, new, after, faults}
 
 -- a run's bytes and ticks, and the glass, the cursor and the faults that it must lead to
@@ -73,17 +75,17 @@ table =
     ∷ sample (bytes macro_run ++ replicate 6 tick) (begins (65 ∷ 66 ∷ 65 ∷ 66 ∷ 65 ∷ []) 35) 6 1 []
     ∷ []
 
-abbrev told : Fault → List ℕ
-told f = display_cause (inner f) ∷ display_first (inner f) ∷ display_second (inner f) ∷ display_operand (inner f) ∷ []
+abbrev numbers : Report → List ℕ
+numbers r = r.cause ∷ r.name.first ∷ r.name.second ∷ r.operand ∷ []
 
 -- what a run leads to by the rules
 abbrev pub shown : Sample → Sample
 shown s = record {
   given = s.given;
-  glass = (after (new settings) s.given).glass;
-  column = (after (new settings) s.given).core.layout.column;
-  row = (after (new settings) s.given).core.layout.row;
-  faults = map told (faults (new settings) s.given);
+  glass = (after reads (new reads settings) s.given).glass;
+  column = (after reads (new reads settings) s.given).core.layout.column;
+  row = (after reads (new reads settings) s.given).core.layout.row;
+  faults = map (λ f. numbers (report f)) (faults reads (new reads settings) s.given);
 }
 
 -- each run of the table shows what it must

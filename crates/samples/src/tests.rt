@@ -1,5 +1,5 @@
 // Each refusal, the recall, and the tempting errors, on the calls themselves.
-use display::display::Display;
+use display::Display;
 use display::words::{Answer, Question};
 use history::compare::same;
 use history::recall::recall_bytes;
@@ -44,8 +44,8 @@ fn first_fault(display: &mut Display<PlainPanel>, piece: &[u8]) -> Option<(u8, u
     let mut places = [UNUSED; 512];
     let mut faults = BoundedList::over(&mut places);
     let _ = display.feed(piece, &mut faults);
-    let fault = faults.nth(0)?.inner();
-    Some((fault.cause(), fault.operand()))
+    let report = faults.nth(0)?.report();
+    Some((report.cause, report.operand))
 }
 
 // The cell of a position, or the number of the refusal.

@@ -2,9 +2,9 @@
 -- character. Assumes nothing.
 use Rattle.std.specs.Prelude.{◌≡◌, ℕ, ◌+◌, ◌*◌, ◌/◌, ◌%◌, ◌^◌, ◌<◌, false, cond, ◌&&◌, Some, None, Option, ◌==◌, nat_le}
 use Rattle.script.specs.declared.cells.CellParts.{CellParts}
-use Rattle.reader.specs.declared.words.Mark.{Mark}
-use Rattle.reader.specs.declared.words.Mark.TheVariants.{Point, Comma, Semicolon}
-use Rattle.reader.specs.Numbers.{mark_number, mark_byte}
+use Rattle.commands.specs.declared.words.Mark.{Mark}
+use Rattle.commands.specs.declared.words.Mark.TheVariants.{Point, Comma, Semicolon}
+use Rattle.commands.specs.Numbers.{mark_number, mark_byte}
 
 -- the number that a mark has in a cell
 abbrev pub mark_bits : Option Mark → ℕ

@@ -2,7 +2,7 @@
 ghost use Rattle.std.specs.Prelude.{◌≡◌, ◌+◌, ◌*◌, ◌^◌, ◌<◌};
 ghost use Rattle.script.specs.Signs.{mark_of, parts_of, glyph_of, sign_of, PartsTell};
 
-use reader::words::Mark;
+use commands::words::Mark;
 
 #[derive(Clone, Copy, Debug, PartialEq, Eq)]
 pub struct CellParts {

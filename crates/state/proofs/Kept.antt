@@ -3,8 +3,8 @@ use Rattle.std.proofs.Common.{◌≡◌, ℕ, true, false, cond, Some, None, Opt
 use Rattle.std.proofs.lemmas.Bool.Decides.{nat_tests}
 use Rattle.glass.specs.declared.area.Area.{Area}
 use Rattle.glass.specs.Places.{holds, lawful, apart}
-use Rattle.reader.specs.declared.words.Slot.{Slot}
-use Rattle.reader.specs.declared.words.Slot.TheVariants.{First, Second, Third, Fourth}
+use Rattle.commands.specs.declared.words.Slot.{Slot}
+use Rattle.commands.specs.declared.words.Slot.TheVariants.{First, Second, Third, Fourth}
 use Rattle.state.specs.declared.slots.Slots.{Slots}
 use Rattle.state.specs.Slots.{clear, clears, clear_all, fits, at, with_at, known, area_of, or_whole, turned_to, same, is_some}
 

@@ -1,3 +1,4 @@
 pub mod Kept
 pub mod Runs
 pub mod Stays
+pub mod Glanced

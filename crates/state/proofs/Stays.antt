@@ -3,10 +3,10 @@ use Rattle.std.proofs.Common.{◌≡◌, ℕ, true, arith}
 use Rattle.std.proofs.lemmas.Bool.Decides.{nat_tests}
 use Rattle.glass.specs.declared.area.Area.{Area}
 use Rattle.glass.specs.Places.{holds, lawful}
-use Rattle.reader.specs.declared.words.Mode.{Mode}
-use Rattle.reader.specs.declared.words.Mode.TheVariants.{Overwrite, Vertical, Horizontal}
-use Rattle.state.specs.declared.moves.Way.{Way}
-use Rattle.state.specs.declared.moves.Way.TheVariants.{Left, Right, Down, Up}
+use Rattle.commands.specs.declared.words.Mode.{Mode}
+use Rattle.commands.specs.declared.words.Mode.TheVariants.{Overwrite, Vertical, Horizontal}
+use Rattle.commands.specs.declared.words.Way.{Way}
+use Rattle.commands.specs.declared.words.Way.TheVariants.{Left, Right, Down, Up}
 use Rattle.state.specs.Moves.{toward}
 
 pub step_inside : (w : Way) (m : Mode) (a : Area) (x y : ℕ) → lawful a ≡ true → holds a x y ≡ true →

@@ -1,7 +1,7 @@
 -- The cell of a character.
 use Rattle.std.specs.Prelude.{ℕ, ◌+◌, ◌*◌, cond, List, Some, None, Option, slice_index}
-use Rattle.reader.specs.declared.words.Mark.{Mark}
-use Rattle.reader.specs.Numbers.{mark_number}
+use Rattle.commands.specs.declared.words.Mark.{Mark}
+use Rattle.commands.specs.Numbers.{mark_number}
 use Rattle.state.specs.declared.cell.Pen.{Pen}
 
 abbrev pub mark_of : Option Mark → ℕ

@@ -5,28 +5,33 @@ use Rattle.glass.specs.Places.{whole}
 use Rattle.glass.specs.declared.stroke.Ink.{Ink}
 use Rattle.glass.specs.declared.stroke.Ink.TheVariants.{Blank, BlankRow, Write, ShiftLeft}
 use Rattle.glass.specs.declared.stroke.Stroke.{Stroke}
-use Rattle.reader.specs.declared.words.Mode.{Mode}
-use Rattle.reader.specs.declared.words.Mode.TheVariants.{Overwrite, Vertical, Horizontal}
-use Rattle.reader.specs.declared.words.Command.{Command}
-use Rattle.reader.specs.declared.words.Command.TheVariants.{Character, Left, Right, Down, Up, Home, Clear, RowStart, RowEnd, Corner, ClearRow, SetMode, GoTo, Cursor, Brightness, Blink, Marked, Record, Play, Initialize, Select, DefineWindow, CancelWindow, TurnToWindow, UseSet, UseTable, UserCharacters, Forget, Define}
-use Rattle.state.specs.declared.cell.Pen.{Pen}
-use Rattle.state.specs.declared.controller.Strokes.{Strokes}
+use Rattle.commands.specs.declared.words.Mark.{Mark}
+use Rattle.commands.specs.declared.words.Mode.{Mode}
+use Rattle.commands.specs.declared.words.Mode.TheVariants.{Overwrite, Vertical, Horizontal}
+use Rattle.commands.specs.declared.words.Way.{Way}
+use Rattle.commands.specs.declared.words.Way.TheVariants as way
+use Rattle.commands.specs.declared.words.Spot.{Spot}
+use Rattle.commands.specs.declared.words.Spot.TheVariants as spot
+use Rattle.commands.specs.declared.words.Name.{Name}
+use Rattle.commands.specs.declared.words.Refusal.{Refusal}
+use Rattle.commands.specs.declared.words.Refusal.TheVariants.{PlayRefused}
+use Rattle.commands.specs.declared.words.PenChange.{PenChange}
+use Rattle.commands.specs.declared.words.PenChange.TheVariants as pen
+use Rattle.commands.specs.declared.words.Command.{Command}
+use Rattle.commands.specs.declared.words.Command.TheVariants.{Character, Move, Jump, GoTo, Clear, ClearRow, Pen, Cursor, Brightness, Blink, Window, Define, Forget, Record, Play, Select, Initialize}
 use Rattle.terms.specs.declared.fault.DisplayFault.{DisplayFault}
-use Rattle.state.specs.declared.moves.Way.{Way}
-use Rattle.state.specs.declared.moves.Way.TheVariants as way
-use Rattle.state.specs.declared.moves.Spot.{Spot}
-use Rattle.state.specs.declared.moves.Spot.TheVariants as spot
+use Rattle.terms.specs.declared.fault.DisplayFault.TheVariants.{Refused}
+use Rattle.state.specs.declared.cell.Pen.{Pen as PenState}
+use Rattle.state.specs.declared.controller.Strokes.{Strokes}
 use Rattle.state.specs.declared.listener.Voice.{Voice}
 use Rattle.state.specs.declared.listener.Voice.TheVariants.{Host, Macro}
-use Rattle.terms.specs.declared.fault.DisplayFault.TheVariants.{PlayRefused}
-use Rattle.reader.specs.declared.words.Mark.{Mark}
 use Rattle.state.specs.Cells.{cell_of}
 use Rattle.state.specs.Users.{user_at, user_set}
 use Rattle.state.specs.Tapes.{Turned, recorded, playing}
 use Rattle.state.specs.Lamps.{lamp_set}
 use Rattle.state.specs.Moves.{toward}
-use Rattle.state.specs.Layouts.{Turn, cursor_of, stepped, jumped, turning, cancelling, defining, going}
-use Rattle.state.specs.Core.{Core, fresh, window, with_layout, with_pen, with_shown, with_brightness, with_lamp, with_selected, with_users, with_tape}
+use Rattle.state.specs.Layouts.{Turn, cursor_of, stepped, jumped, changing, going}
+use Rattle.state.specs.Core.{Core, fresh, window}
 
 -- the state after a command, and what it draws or why it is refused
 pub record Effect : Type 0 where
@@ -67,17 +72,17 @@ drawing c s = record { core = c; answer = Ok (record { first = Some s; second = 
 -- one step of the cursor
 abbrev pub steps : Way → Core → Effect
 steps w c = record {
-  core = with_layout c (stepped w c.pen.mode c.layout);
+  core = record c { layout = stepped w c.pen.mode c.layout };
   answer = Ok (record { first = inks (window c) (toward w c.pen.mode (window c) c.layout.column c.layout.row).ink; second = None });
 }
 
 abbrev pub jumps : Spot → Core → Core
-jumps s c = with_layout c (jumped s c.layout)
+jumps s c = record c { layout = jumped s c.layout }
 
 -- a cell is written at the cursor, which then goes right
 abbrev pub writes_on : Core → ℕ → Effect
 writes_on c v = record {
-  core = with_layout c (stepped way.Right c.pen.mode c.layout);
+  core = record c { layout = stepped way.Right c.pen.mode c.layout };
   answer = Ok (record {
     first = Some (stroke (window c) (Write (cursor_of c.layout) v));
     second = inks (window c) (toward way.Right c.pen.mode (window c) c.layout.column c.layout.row).ink;
@@ -96,70 +101,52 @@ writes Horizontal c v = record {
   });
 }
 
--- the answer of the window record, which draws nothing
-abbrev pub answered : Result Unit DisplayFault → Result Strokes DisplayFault
-answered (Ok u) = Ok no_strokes
-answered (Err f) = Err f
+-- nothing is drawn, or a command of this name is refused
+abbrev pub answered : Name → Result Unit Refusal → Result Strokes DisplayFault
+answered n (Ok u) = Ok no_strokes
+answered n (Err r) = Err (Refused r n)
 
-abbrev pub turns : Core → Turn → Effect
-turns c t = record { core = with_layout c t.left; answer = answered t.answer }
+abbrev pub turns : Core → Name → Turn → Effect
+turns c n t = record { core = record c { layout = t.left }; answer = answered n t.answer }
 
-abbrev pub in_mode : Pen → Mode → Pen
-in_mode p m = record { mode = m; set = p.set; table = p.table; user = p.user }
+abbrev pub winds : Core → Name → Turned → Effect
+winds c n t = record { core = record c { tape = t.left }; answer = answered n t.answer }
 
-abbrev pub in_set : Pen → ℕ → Pen
-in_set p n = record { mode = p.mode; set = n; table = p.table; user = p.user }
-
-abbrev pub in_table : Pen → ℕ → Pen
-in_table p n = record { mode = p.mode; set = p.set; table = n; user = p.user }
-
-abbrev pub in_use : Pen → Bool → Pen
-in_use p b = record { mode = p.mode; set = p.set; table = p.table; user = b }
+abbrev pub changes : PenChange → PenState → PenState
+changes (pen.Mode m) p = record p { mode = m }
+changes (pen.Set n) p = record p { set = n }
+changes (pen.Table n) p = record p { table = n }
+changes (pen.User b) p = record p { user = b }
 
 -- a character is written, with a mark or without
 abbrev pub types : ℕ → Option Mark → Core → Effect
 types n m c = writes c.pen.mode c (cell_of n c.pen (user_at c.users n) m)
 
-abbrev pub winds : Core → Turned → Effect
-winds c t = record { core = with_tape c t.left; answer = answered t.answer }
+-- a playback from the macro is refused
+abbrev pub plays : Voice → Name → ℕ → ℕ → Core → Effect
+plays Host k n m c = winds c k (playing c.tape n m)
+plays Macro k n m c = record { core = c; answer = Err (Refused PlayRefused k) }
 
--- US ^ from the macro is refused
-abbrev pub plays : Voice → ℕ → ℕ → Core → Effect
-plays Host n m c = winds c (playing c.tape n m)
-plays Macro n m c = record { core = c; answer = Err PlayRefused }
-
--- ESC = from the macro does nothing
+-- selecting or deselecting from the macro does nothing
 abbrev pub chooses : Voice → Bool → Core → Core
-chooses Host b c = with_selected c b
+chooses Host b c = record c { selected = b }
 chooses Macro b c = c
 
 abbrev pub effect : Voice → Command → Core → Effect
-effect v (Character n) c = types n None c
-effect v (Marked m n) c = types n (Some m) c
-effect v Left c = steps way.Left c
-effect v Right c = steps way.Right c
-effect v Down c = steps way.Down c
-effect v Up c = steps way.Up c
-effect v Home c = quietly (jumps spot.Home c)
-effect v RowStart c = quietly (jumps spot.RowStart c)
-effect v RowEnd c = quietly (jumps spot.RowEnd c)
-effect v Corner c = quietly (jumps spot.Corner c)
+effect v (Character n m) c = types n m c
+effect v (Move w) c = steps w c
+effect v (Jump s) c = quietly (jumps s c)
+effect v (GoTo p n) c = turns c n (going p c.layout)
 effect v Clear c = drawing (jumps spot.Home c) (stroke (window c) Blank)
 effect v ClearRow c = drawing (jumps spot.RowStart c) (stroke (window c) (BlankRow c.layout.row))
-effect v (SetMode m) c = quietly (with_pen c (in_mode c.pen m))
-effect v (UseSet n) c = quietly (with_pen c (in_set c.pen n))
-effect v (UseTable n) c = quietly (with_pen c (in_table c.pen n))
-effect v (GoTo x y) c = turns c (going x y c.layout)
-effect v (DefineWindow n a b d e) c = turns c (defining n (record { x1 = a; y1 = b; x2 = d; y2 = e }) c.layout)
-effect v (CancelWindow n) c = turns c (cancelling n c.layout)
-effect v (TurnToWindow n) c = turns c (turning n c.layout)
-effect v (Cursor b) c = quietly (with_shown c b)
-effect v (Brightness n) c = quietly (with_brightness c n)
-effect v (Blink n) c = quietly (with_lamp c (lamp_set n))
+effect v (Pen p) c = quietly (record c { pen = changes p c.pen })
+effect v (Cursor b) c = quietly (record c { shown = b })
+effect v (Brightness n) c = quietly (record c { brightness = n })
+effect v (Blink n) c = quietly (record c { lamp = lamp_set n })
+effect v (Window w n) c = turns c n (changing w c.layout)
+effect v (Define n bs) c = quietly (record c { users = user_set c.users n (Some bs) })
+effect v (Forget n) c = quietly (record c { users = user_set c.users n None })
+effect v Record c = quietly (record c { tape = recorded c.tape })
+effect v (Play n m k) c = plays v k n m c
 effect v (Select b) c = quietly (chooses v b c)
 effect v Initialize c = drawing (fresh c.settings) (stroke whole Blank)
-effect v Record c = quietly (with_tape c (recorded c.tape))
-effect v (Play n m) c = plays v n m c
-effect v (UserCharacters b) c = quietly (with_pen c (in_use c.pen b))
-effect v (Forget n) c = quietly (with_users c (user_set c.users n None))
-effect v (Define n bs) c = quietly (with_users c (user_set c.users n (Some bs)))

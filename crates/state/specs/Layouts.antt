@@ -2,17 +2,20 @@
 use Rattle.std.specs.Prelude.{◌≡◌, ℕ, ◌+◌, ◌-◌, Bool, cond, Some, None, Ok, Err, Option, Result, ◌==◌}
 use Rattle.glass.specs.declared.area.Area.{Area}
 use Rattle.glass.specs.declared.area.Position.{Position}
-use Rattle.glass.specs.Places.{whole, lawful, holds}
-use Rattle.reader.specs.declared.words.Slot.{Slot}
-use Rattle.state.specs.declared.moves.Way.{Way}
-use Rattle.state.specs.declared.moves.Spot.{Spot}
+use Rattle.glass.specs.declared.frame.GlassPosition.{GlassPosition}
+use Rattle.glass.specs.Places.{whole, holds}
+use Rattle.commands.specs.declared.words.Slot.{Slot}
+use Rattle.commands.specs.declared.words.Way.{Way}
+use Rattle.commands.specs.declared.words.Spot.{Spot}
+use Rattle.commands.specs.declared.words.WindowChange.{WindowChange}
+use Rattle.commands.specs.declared.words.WindowChange.TheVariants.{Define, Cancel, TurnTo}
 use Rattle.state.specs.Moves.{toward, target}
-use Rattle.reader.specs.declared.words.Mode.{Mode}
-use Rattle.reader.specs.declared.words.Slot.TheVariants.{First, Second, Third, Fourth}
+use Rattle.commands.specs.declared.words.Mode.{Mode}
+use Rattle.commands.specs.declared.words.Slot.TheVariants.{First, Second, Third, Fourth}
 use Rattle.state.specs.declared.slots.Slots.{Slots}
 use Rattle.state.specs.declared.windows.Windows.{Windows}
-use Rattle.terms.specs.declared.fault.DisplayFault.{DisplayFault}
-use Rattle.terms.specs.declared.fault.DisplayFault.TheVariants.{WindowDefined, WindowTouches, WindowUndefined, OutsideWindow}
+use Rattle.commands.specs.declared.words.Refusal.{Refusal}
+use Rattle.commands.specs.declared.words.Refusal.TheVariants.{WindowDefined, WindowTouches, WindowUndefined, OutsideWindow}
 use Rattle.state.specs.Slots.{at, with_at, no_windows, clear_all, known, area_of, turned_to}
 
 -- the windows, the current one (none is the whole glass), and the cursor by column and row of the glass
@@ -31,7 +34,7 @@ here l = area_of l.slots l.current
 
 -- the cursor at a column and a row
 abbrev pub at_spot : Layout → ℕ → ℕ → Layout
-at_spot l x y = record { slots = l.slots; current = l.current; column = x; row = y }
+at_spot l x y = record l { column = x; row = y }
 
 abbrev pub cursor_of : Layout → Position
 cursor_of l = record { column = l.column; row = l.row }
@@ -57,15 +60,15 @@ new_layout = homed no_windows None
 
 -- the answer, and windows and cursor after it
 pub record Turn : Type 0 where
-  pub answer : Result Unit DisplayFault
+  pub answer : Result Unit Refusal
   pub left : Layout
 
 -- the answer was given, and this is left
-pub record Turns (t : Turn) (r : Result Unit DisplayFault) (l : Layout) : Type 0 where
+pub record Turns (t : Turn) (r : Result Unit Refusal) (l : Layout) : Type 0 where
   pub answer : r ≡ t.answer
   pub left : l ≡ t.left
 
-abbrev pub refuses : DisplayFault → Layout → Turn
+abbrev pub refuses : Refusal → Layout → Turn
 refuses f l = record { answer = Err f; left = l }
 
 abbrev pub leaves : Layout → Turn
@@ -78,10 +81,7 @@ turning n l = cond (known l.slots n) (leaves (homed l.slots n)) (refuses WindowU
 abbrev pub cancelled : Option Area → Slot → Layout → Turn
 cancelled None n l = refuses WindowUndefined l
 cancelled (Some a) n l =
-    leaves (
-    cond (turned_to l.current n) (homed (with_at l.slots n None) None)
-    (record { slots = with_at l.slots n None; current = l.current; column = l.column; row = l.row })
-    )
+    leaves (cond (turned_to l.current n) (homed (with_at l.slots n None) None) (record l { slots = with_at l.slots n None }))
 
 abbrev pub cancelling : Slot → Layout → Turn
 cancelling n l = cancelled (at l.slots n) n l
@@ -93,16 +93,21 @@ defined None n a l =
     cond (clear_all a l.slots) (leaves (record { slots = with_at l.slots n (Some a); current = Some n; column = a.x1; row = a.y1 }))
     (refuses WindowTouches l)
 
--- an area that is not on the glass, which is never read, defines nothing
 abbrev pub defining : Slot → Area → Layout → Turn
-defining n a l = cond (lawful a) (defined (at l.slots n) n a l) (leaves l)
+defining n a l = defined (at l.slots n) n a l
+
+-- a change of the windows
+abbrev pub changing : WindowChange → Layout → Turn
+changing (Define n f) l = defining n f.area l
+changing (Cancel n) l = cancelling n l
+changing (TurnTo n) l = turning n l
 
 -- column x and row y, counted from the window's corner, lie inside it
 abbrev pub reaches : ℕ → ℕ → Layout → Bool
 reaches x y l = holds (here l) ((here l).x1 + x - 1) ((here l).y1 + y - 1)
 
--- the cursor goes there; outside it is a fault
-abbrev pub going : ℕ → ℕ → Layout → Turn
-going x y l =
-    cond (reaches x y l) (leaves (at_spot l ((here l).x1 + x - 1) ((here l).y1 + y - 1)))
+-- the cursor goes there; outside it is refused
+abbrev pub going : GlassPosition → Layout → Turn
+going p l =
+    cond (reaches p.at.column p.at.row l) (leaves (at_spot l ((here l).x1 + p.at.column - 1) ((here l).y1 + p.at.row - 1)))
     (refuses OutsideWindow l)

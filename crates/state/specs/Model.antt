@@ -1,33 +1,35 @@
 -- The abstract display: forty cells and a state, given bytes and ticks one by one. It has no panel and knows no pieces.
 use Rattle.std.specs.Prelude.{◌≡◌, ℕ, Bool, true, false, cond, ◌&&◌, ◌||◌, List, [], ◌∷◌, ◌++◌, replicate, Some, None, Ok, Err, Option, Result}
 use Rattle.glass.specs.declared.stroke.Stroke.{Stroke}
+use Rattle.glass.specs.declared.stroke.Ink.TheVariants.{Blank}
 use Rattle.glass.specs.Drawn.{drawn_all, blank}
-use Rattle.reader.specs.declared.words.Command.{Command}
-use Rattle.reader.specs.declared.words.Command.TheVariants.{Character, Left, Right, Down, Up, Home, Clear, RowStart, RowEnd, Corner, ClearRow, SetMode, GoTo, Cursor, Brightness, Blink, Marked, Record, Play, Initialize, Select, DefineWindow, CancelWindow, TurnToWindow, UseSet, UseTable, UserCharacters, Forget, Define}
-use Rattle.reader.specs.declared.words.Reading.TheVariants.{Rest}
-use Rattle.reader.specs.declared.words.ReadFault.{ReadFault}
-use Rattle.reader.specs.Steps.{step}
-use Rattle.state.specs.declared.controller.Strokes.{Strokes}
-use Rattle.state.specs.declared.controller.Reply.{Reply}
-use Rattle.state.specs.declared.controller.HostReply.{HostReply}
-use Rattle.state.specs.declared.controller.Controller.{Controller}
+use Rattle.commands.specs.declared.words.Command.{Command}
+use Rattle.commands.specs.declared.words.Command.TheVariants.{Select}
+use Rattle.commands.specs.declared.words.Dialect.TheVariants.{EscPos}
+use Rattle.commands.specs.declared.words.Name.{Name}
+use Rattle.commands.specs.declared.words.Refusal.{Refusal}
+use Rattle.commands.specs.declared.words.Spot.TheVariants as spot
+use Rattle.commands.specs.declared.outcome.ReadFault.{ReadFault}
+use Rattle.commands.specs.Sets.{Reads}
 use Rattle.terms.specs.declared.fault.DisplayFault.{DisplayFault}
-use Rattle.terms.specs.declared.fault.DisplayFault.TheVariants.{Read}
+use Rattle.terms.specs.declared.fault.DisplayFault.TheVariants.{Read, Refused}
 use Rattle.terms.specs.declared.fault.Fault.{Fault}
 use Rattle.terms.specs.declared.fault.Fault.TheVariants.{Said, Played}
-use Rattle.glass.specs.declared.stroke.Ink.TheVariants.{Blank}
+use Rattle.terms.specs.Presets.{Preset}
+use Rattle.state.specs.declared.controller.Controller.{Controller}
+use Rattle.state.specs.declared.controller.HostReply.{HostReply}
+use Rattle.state.specs.declared.controller.Reply.{Reply}
+use Rattle.state.specs.declared.controller.Strokes.{Strokes}
+use Rattle.state.specs.declared.listener.Item.{Item}
 use Rattle.state.specs.declared.listener.Voice.{Voice}
 use Rattle.state.specs.declared.listener.Voice.TheVariants.{Host, Macro}
-use Rattle.state.specs.declared.listener.Item.{Item}
-use Rattle.state.specs.declared.moves.Spot.TheVariants as spot
-use Rattle.state.specs.Voices.{from_host}
+use Rattle.state.specs.Core.{Core, core_of, fresh, window}
+use Rattle.state.specs.Effects.{Effect, effect, jumps, no_strokes, one, stroke, strokes_of}
 use Rattle.state.specs.Heard.{heard_as}
+use Rattle.state.specs.Lamps.{lamp_ticked}
 use Rattle.state.specs.Reels.{is_playing}
 use Rattle.state.specs.Tapes.{stopped, stored, overflow, wound, due}
-use Rattle.terms.specs.Presets.{Preset}
-use Rattle.state.specs.Lamps.{lamp_ticked}
-use Rattle.state.specs.Core.{Core, core_of, fresh, window, with_reading, with_lamp, with_tape}
-use Rattle.state.specs.Effects.{Effect, effect, jumps, no_strokes, one, stroke, strokes_of}
+use Rattle.state.specs.Voices.{from_host}
 
 -- what happens to a display: a byte comes, or ten milliseconds pass
 pub data Event : Type 0 where
@@ -36,36 +38,9 @@ pub data Event : Type 0 where
 
 abbrev pub selects : Command → Bool
 selects (Select b) = true
-selects (Character n) = false
-selects (Marked m n) = false
-selects Left = false
-selects Right = false
-selects Down = false
-selects Up = false
-selects Home = false
-selects Clear = false
-selects RowStart = false
-selects RowEnd = false
-selects Corner = false
-selects ClearRow = false
-selects (SetMode m) = false
-selects (UseSet n) = false
-selects (UseTable n) = false
-selects (GoTo x y) = false
-selects (DefineWindow n a b d e) = false
-selects (CancelWindow n) = false
-selects (TurnToWindow n) = false
-selects (Cursor b) = false
-selects (Brightness n) = false
-selects (Blink n) = false
-selects Initialize = false
-selects Record = false
-selects (Play n m) = false
-selects (UserCharacters b) = false
-selects (Forget n) = false
-selects (Define n bs) = false
+selects command = false
 
--- what is carried out while the display is deselected: ESC = from the host alone
+-- what is carried out while the display is deselected: a selecting or deselecting command from the host alone
 abbrev pub heeded : Voice → Command → Bool
 heeded v d = from_host v && selects d
 
@@ -91,17 +66,6 @@ obeyed (Ok None) c = idle c
 obeyed (Ok (Some i)) c = cond (c.selected || heeded i.voice i.command) (did i.command (effect i.voice i.command c)) (idle c)
 obeyed (Err f) c = record { core = c; answer = Err (Read f); carried = [] }
 
--- a byte is read, and what it completes is carried out
-abbrev pub taken : Voice → ℕ → Core → Act
-taken v b c = obeyed (heard_as v (step c.reading b).outcome) (with_reading c (step c.reading b).next)
-
--- what an event leaves, draws and gives
-pub record Response : Type 0 where
-  pub core : Core
-  pub strokes : List Stroke
-  pub faults : List Fault
-  pub carried : List Command
-
 -- a fault draws nothing
 abbrev pub strokes_in : Result Strokes DisplayFault → Strokes
 strokes_in (Ok s) = s
@@ -120,29 +84,24 @@ abbrev pub reported : Voice → Bool → Result Strokes DisplayFault → List Fa
 reported v b (Ok s) = []
 reported v b (Err f) = cond b (told v f ∷ []) []
 
--- a byte is taken in a state, after some strokes and faults of the same event
-abbrev pub takes : Voice → ℕ → List Stroke → List Fault → Core → Response
-takes v b ss fs c = record {
-  core = (taken v b c).core;
-  strokes = ss ++ drawn_by (taken v b c).answer;
-  faults = fs ++ reported v c.selected (taken v b c).answer;
-  carried = (taken v b c).carried;
-}
-
--- A host byte ends a playback: a half-read command is forgotten, the window is blanked, the cursor goes home.
+-- A host byte ends a playback: the window is blanked, the cursor goes home.
 abbrev pub ended : Core → Core
-ended c = cond (is_playing c.tape.current) (with_tape (with_reading (jumps spot.Home c) Rest) (stopped c.tape)) c
+ended c = cond (is_playing c.tape.current) (record (jumps spot.Home c) { tape = stopped c.tape }) c
 
 abbrev pub ending : Core → List Stroke
 ending c = cond (is_playing c.tape.current) (stroke (window c) Blank ∷ []) []
 
 -- A recording stores a host byte, or ends at it; not while the display is deselected.
 abbrev pub kept : ℕ → Core → Core
-kept b c = cond c.selected (with_tape c (stored c.tape b)) c
+kept b c = cond c.selected (record c { tape = stored c.tape b }) c
 
-abbrev pub said : Option DisplayFault → List Fault
+-- the command that opens and closes recordings, which a recording that is too long is told of
+abbrev pub recording : Name
+recording = record { first = 0x1F; second = 0x3A }
+
+abbrev pub said : Option Refusal → List Fault
 said None = []
-said (Some f) = Said f ∷ []
+said (Some r) = Said (Refused r recording) ∷ []
 
 abbrev pub overflows : Core → List Fault
 overflows c = cond c.selected (said (overflow c.tape)) []
@@ -153,75 +112,111 @@ before b c = kept b (ended c)
 
 -- a tick moves the lamp, and then the macro
 abbrev pub ticked : Core → Core
-ticked c = with_tape (with_lamp c (lamp_ticked c.lamp)) (wound c.tape)
-
--- what comes of the macro's byte, if one is due
-abbrev pub acted : Option ℕ → Core → Act
-acted None c = idle c
-acted (Some b) c = taken Macro b c
-
-abbrev pub played : Option ℕ → Core → Response
-played None c = record { core = c; strokes = []; faults = []; carried = [] }
-played (Some b) c = takes Macro b [] [] c
-
-abbrev pub respond : Event → Core → Response
-respond (byte b) c = takes Host b (ending c) (overflows (ended c)) (before b c)
-respond tick c = played (due c.tape) (ticked c)
+ticked c = record c { lamp = lamp_ticked c.lamp; tape = wound c.tape }
 
 abbrev pub fault_of : Option Fault → List Fault
 fault_of None = []
 fault_of (Some f) = f ∷ []
-
--- a controller's reply to a host byte is the rules' response, whole and part by part
-pub record Replies (b : ℕ) (c : Controller) (r : HostReply) (c' : Controller) : Type 0 where
-  pub core : core_of c' ≡ (respond (byte b) (core_of c)).core
-  pub strokes : one r.ending ++ strokes_of r.reply.strokes ≡ (respond (byte b) (core_of c)).strokes
-  pub faults : fault_of r.overflow ++ fault_of r.reply.fault ≡ (respond (byte b) (core_of c)).faults
-  -- the stroke that ends a playback
-  pub ending : one r.ending ≡ ending (core_of c)
-  -- the fault of a recording that is too long
-  pub overflow : fault_of r.overflow ≡ overflows (ended (core_of c))
-  -- the strokes and the fault of the byte that is then read
-  pub drawn : r.reply.strokes ≡ strokes_in (taken Host b (before b (core_of c))).answer
-  pub fault : fault_of r.reply.fault ≡ reported Host (before b (core_of c)).selected (taken Host b (before b (core_of c))).answer
-
--- and so is its reply to a tick
-pub record Moves (c : Controller) (r : Reply) (c' : Controller) : Type 0 where
-  pub core : core_of c' ≡ (respond tick (core_of c)).core
-  pub strokes : strokes_of r.strokes ≡ (respond tick (core_of c)).strokes
-  pub fault : fault_of r.fault ≡ (respond tick (core_of c)).faults
-  -- the strokes of the macro's byte
-  pub drawn : r.strokes ≡ strokes_in (acted (due (core_of c).tape) (ticked (core_of c))).answer
-
--- The display, with its glass.
-pub record State : Type 0 where
-  pub core : Core
-  pub glass : List ℕ
-
-abbrev pub new : Preset → State
-new p = record { core = fresh p; glass = replicate 40 blank }
-
-abbrev pub reply : Event → State → Response
-reply e s = respond e s.core
-
-abbrev pub next : State → Event → State
-next s e = record { core = (reply e s).core; glass = drawn_all (reply e s).strokes s.glass }
-
--- Runs: the state after events, the faults joined, the commands carried out.
-abbrev pub after : State → List Event → State
-after s [] = s
-after s (e ∷ es) = after (next s e) es
-
-abbrev pub faults : State → List Event → List Fault
-faults s [] = []
-faults s (e ∷ es) = (reply e s).faults ++ faults (next s e) es
-
-abbrev pub carried : State → List Event → List Command
-carried s [] = []
-carried s (e ∷ es) = (reply e s).carried ++ carried (next s e) es
 
 -- the bytes among events
 abbrev pub bytes_of : List Event → List ℕ
 bytes_of [] = []
 bytes_of (byte b ∷ es) = b ∷ bytes_of es
 bytes_of (tick ∷ es) = bytes_of es
+
+-- what an event leaves, draws and gives
+pub record Response (R : Type 0) : Type 0 where
+  pub reading : R
+  pub core : Core
+  pub strokes : List Stroke
+  pub faults : List Fault
+  pub carried : List Command
+
+-- The display, with its glass.
+pub record State (R : Type 0) : Type 0 where
+  pub reading : R
+  pub core : Core
+  pub glass : List ℕ
+
+-- Over any command sets.
+module _ {R : Type 0} (reads : Reads R) where
+  -- a host byte that ends a playback forgets a half-read command
+  abbrev pub forgotten : R → Core → R
+  forgotten r c = cond (is_playing c.tape.current) (reads.rest (reads.dialect r)) r
+
+  -- a byte is read, and what it completes is carried out
+  abbrev pub taken : Voice → ℕ → R → Core → Act
+  taken v b r c = obeyed (heard_as v (reads.step r b).outcome) c
+
+  -- a byte is taken in a state, after some strokes and faults of the same event
+  abbrev pub takes : Voice → ℕ → List Stroke → List Fault → R → Core → Response R
+  takes v b ss fs r c = record {
+    reading = (reads.step r b).next;
+    core = (taken v b r c).core;
+    strokes = ss ++ drawn_by (taken v b r c).answer;
+    faults = fs ++ reported v c.selected (taken v b r c).answer;
+    carried = (taken v b r c).carried;
+  }
+
+  -- what comes of the macro's byte, if one is due
+  abbrev pub acted : Option ℕ → R → Core → Act
+  acted None r c = idle c
+  acted (Some b) r c = taken Macro b r c
+
+  abbrev pub played : Option ℕ → R → Core → Response R
+  played None r c = record { reading = r; core = c; strokes = []; faults = []; carried = [] }
+  played (Some b) r c = takes Macro b [] [] r c
+
+  abbrev pub respond : Event → R → Core → Response R
+  respond (byte b) r c = takes Host b (ending c) (overflows (ended c)) (forgotten r c) (before b c)
+  respond tick r c = played (due c.tape) r (ticked c)
+
+  -- a controller's reply to a host byte is the rules' response, whole and part by part
+  pub record Replies (b : ℕ) (c : Controller R) (r : HostReply) (c' : Controller R) : Type 0 where
+    pub reading : c'.listener.reading ≡ (respond (byte b) c.listener.reading (core_of c.machine)).reading
+    pub core : core_of c'.machine ≡ (respond (byte b) c.listener.reading (core_of c.machine)).core
+    pub strokes : one r.ending ++ strokes_of r.reply.strokes ≡ (respond (byte b) c.listener.reading (core_of c.machine)).strokes
+    pub faults : fault_of r.overflow ++ fault_of r.reply.fault ≡ (respond (byte b) c.listener.reading (core_of c.machine)).faults
+    -- the stroke that ends a playback
+    pub ending : one r.ending ≡ ending (core_of c.machine)
+    -- the fault of a recording that is too long
+    pub overflow : fault_of r.overflow ≡ overflows (ended (core_of c.machine))
+    -- the strokes and the fault of the byte that is then read
+    pub drawn : r.reply.strokes ≡ strokes_in (taken Host b (forgotten c.listener.reading (core_of c.machine)) (before b (core_of c.machine))).answer
+    pub fault : fault_of r.reply.fault ≡ reported Host (before b (core_of c.machine)).selected (taken Host b (forgotten c.listener.reading (core_of c.machine)) (before b (core_of c.machine))).answer
+
+  -- and so is its reply to a tick
+  pub record Moves (c : Controller R) (r : Reply) (c' : Controller R) : Type 0 where
+    pub reading : c'.listener.reading ≡ (respond tick c.listener.reading (core_of c.machine)).reading
+    pub core : core_of c'.machine ≡ (respond tick c.listener.reading (core_of c.machine)).core
+    pub strokes : strokes_of r.strokes ≡ (respond tick c.listener.reading (core_of c.machine)).strokes
+    pub fault : fault_of r.fault ≡ (respond tick c.listener.reading (core_of c.machine)).faults
+    -- the strokes of the macro's byte
+    pub drawn : r.strokes ≡ strokes_in (acted (due (core_of c.machine).tape) c.listener.reading (ticked (core_of c.machine))).answer
+
+  -- the controller of a new display
+  pub record Begins (p : Preset) (c : Controller R) : Type 0 where
+    pub reading : c.listener.reading ≡ reads.rest EscPos
+    pub core : core_of c.machine ≡ fresh p
+
+  abbrev pub new : Preset → State R
+  new p = record { reading = reads.rest EscPos; core = fresh p; glass = replicate 40 blank }
+
+  abbrev pub reply : Event → State R → Response R
+  reply e s = respond e s.reading s.core
+
+  abbrev pub next : State R → Event → State R
+  next s e = record { reading = (reply e s).reading; core = (reply e s).core; glass = drawn_all (reply e s).strokes s.glass }
+
+  -- Runs: the state after events, the faults joined, the commands carried out.
+  abbrev pub after : State R → List Event → State R
+  after s [] = s
+  after s (e ∷ es) = after (next s e) es
+
+  abbrev pub faults : State R → List Event → List Fault
+  faults s [] = []
+  faults s (e ∷ es) = (reply e s).faults ++ faults (next s e) es
+
+  abbrev pub carried : State R → List Event → List Command
+  carried s [] = []
+  carried s (e ∷ es) = (reply e s).carried ++ carried (next s e) es

@@ -4,13 +4,13 @@ use Rattle.glass.specs.declared.area.Area.{Area}
 use Rattle.glass.specs.declared.area.Position.{Position}
 use Rattle.glass.specs.declared.stroke.Ink.{Ink}
 use Rattle.glass.specs.declared.stroke.Ink.TheVariants.{ShiftLeft, ShiftRight, ScrollUp, ScrollDown}
-use Rattle.reader.specs.declared.words.Mode.{Mode}
-use Rattle.reader.specs.declared.words.Mode.TheVariants.{Overwrite, Vertical, Horizontal}
+use Rattle.commands.specs.declared.words.Mode.{Mode}
+use Rattle.commands.specs.declared.words.Mode.TheVariants.{Overwrite, Vertical, Horizontal}
 use Rattle.state.specs.declared.moves.Move.{Move}
-use Rattle.state.specs.declared.moves.Way.{Way}
-use Rattle.state.specs.declared.moves.Way.TheVariants.{Left, Right, Down, Up}
-use Rattle.state.specs.declared.moves.Spot.{Spot}
-use Rattle.state.specs.declared.moves.Spot.TheVariants.{Home, RowStart, RowEnd, Corner}
+use Rattle.commands.specs.declared.words.Way.{Way}
+use Rattle.commands.specs.declared.words.Way.TheVariants.{Left, Right, Down, Up}
+use Rattle.commands.specs.declared.words.Spot.{Spot}
+use Rattle.commands.specs.declared.words.Spot.TheVariants.{Home, RowStart, RowEnd, Corner}
 
 abbrev pub goes : ℕ → ℕ → Move
 goes x y = record { at = record { column = x; row = y }; ink = None }

@@ -1,7 +1,7 @@
 -- What questions tell of the state.
 use Rattle.std.specs.Prelude.{ℕ, Bool, true, false, List, [], ◌∷◌, Some, None, Option}
-use Rattle.reader.specs.declared.words.Slot.{Slot}
-use Rattle.reader.specs.Numbers.{slot_number, mode_number}
+use Rattle.commands.specs.declared.words.Slot.{Slot}
+use Rattle.commands.specs.Numbers.{slot_number, mode_number}
 use Rattle.state.specs.declared.controller.questions.Modes.{Modes}
 use Rattle.state.specs.Lamps.{lamp_number}
 use Rattle.state.specs.Cells.{user_bits}

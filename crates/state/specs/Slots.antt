@@ -2,9 +2,9 @@
 use Rattle.std.specs.Prelude.{Bool, true, false, ◌&&◌, Some, None, Option, ◌==◌}
 use Rattle.glass.specs.declared.area.Area.{Area}
 use Rattle.glass.specs.Places.{whole, lawful, apart}
-use Rattle.reader.specs.declared.words.Slot.{Slot}
-use Rattle.reader.specs.declared.words.Slot.TheVariants.{First, Second, Third, Fourth}
-use Rattle.reader.specs.Numbers.{slot_number}
+use Rattle.commands.specs.declared.words.Slot.{Slot}
+use Rattle.commands.specs.declared.words.Slot.TheVariants.{First, Second, Third, Fourth}
+use Rattle.commands.specs.Numbers.{slot_number}
 use Rattle.state.specs.declared.slots.Slots.{Slots}
 
 abbrev pub at : Slots → Slot → Option Area
@@ -14,10 +14,10 @@ at s Third = s.third
 at s Fourth = s.fourth
 
 abbrev pub with_at : Slots → Slot → Option Area → Slots
-with_at s First o = record { first = o; second = s.second; third = s.third; fourth = s.fourth }
-with_at s Second o = record { first = s.first; second = o; third = s.third; fourth = s.fourth }
-with_at s Third o = record { first = s.first; second = s.second; third = o; fourth = s.fourth }
-with_at s Fourth o = record { first = s.first; second = s.second; third = s.third; fourth = o }
+with_at s First o = record s { first = o }
+with_at s Second o = record s { second = o }
+with_at s Third o = record s { third = o }
+with_at s Fourth o = record s { fourth = o }
 
 abbrev pub no_windows : Slots
 no_windows = record { first = None; second = None; third = None; fourth = None }

@@ -1,7 +1,7 @@
 -- Recording and playing.
 use Rattle.std.specs.Prelude.{ℕ, ◌+◌, ◌-◌, ◌*◌, Bool, cond, ◌&&◌, List, [], ◌∷◌, ◌++◌, length, take, Some, None, Ok, Err, Option, Result, nat_le, nat_lt, slice_index}
-use Rattle.terms.specs.declared.fault.DisplayFault.{DisplayFault}
-use Rattle.terms.specs.declared.fault.DisplayFault.TheVariants.{PlayRefused, NoMacro, RecordingFull}
+use Rattle.commands.specs.declared.words.Refusal.{Refusal}
+use Rattle.commands.specs.declared.words.Refusal.TheVariants.{PlayRefused, NoMacro, RecordingFull}
 use Rattle.state.specs.declared.tape.Use.{Use}
 use Rattle.state.specs.declared.tape.Use.TheVariants.{Blank, Recording, Stored, Playing}
 use Rattle.state.specs.declared.tape.Tape.{Tape}
@@ -42,18 +42,18 @@ stored_by (Playing n m w k) bs b = record { current = Playing n m w k; bytes = b
 abbrev pub stored : Reel → ℕ → Reel
 stored r b = stored_by r.current r.bytes b
 
-abbrev pub overflow_by : Use → List ℕ → Option DisplayFault
+abbrev pub overflow_by : Use → List ℕ → Option Refusal
 overflow_by Recording bs = cond (nat_lt (length bs) 82) None (Some RecordingFull)
 overflow_by Blank bs = None
 overflow_by Stored bs = None
 overflow_by (Playing n m w k) bs = None
 
-abbrev pub overflow : Reel → Option DisplayFault
+abbrev pub overflow : Reel → Option Refusal
 overflow r = overflow_by r.current r.bytes
 
 -- the answer, and the tape after it
 pub record Turned : Type 0 where
-  pub answer : Result Unit DisplayFault
+  pub answer : Result Unit Refusal
   pub left : Reel
 
 abbrev pub started : ℕ → ℕ → List ℕ → Turned

@@ -2,7 +2,7 @@
 ghost use Rattle.std.specs.Prelude.{◌≡◌, ◌^◌, ◌<◌};
 ghost use Rattle.state.specs.Cells.{built_in, user_cell, user_bits, cell_of, mark_of};
 
-use reader::words::{Mark, Mode};
+use commands::words::{Mark, Mode};
 
 // How characters are written: in which mode, by which international set and code table, and whether by user characters.
 #[derive(Clone, Copy, Debug, PartialEq, Eq)]

@@ -14,10 +14,10 @@ mod events;
 pub mod questions;
 pub mod short;
 
+// All of a display but its glass and what it reads.
 #[derive(Clone, Copy)]
-pub struct Controller {
+pub struct Machine {
     settings: Settings,
-    listener: Listener,
     windows: Windows,
     pen: Pen,
     shown: bool,
@@ -26,6 +26,13 @@ pub struct Controller {
     selected: bool,
     users: Users,
     tape: Tape,
+}
+
+// A machine, and what it reads: over any command sets.
+#[derive(Drop)]
+pub struct Controller<S> {
+    listener: Listener<S>,
+    machine: Machine,
 }
 
 // What a command draws, in order: never more than two, and no heap is needed.

@@ -2,7 +2,7 @@
 ghost use Rattle.std.specs.Prelude.{◌≡◌, true};
 ghost use Rattle.state.specs.Voices.{from_host};
 
-use reader::words::{Command, Reading};
+use commands::words::Command;
 
 pub mod calls;
 
@@ -26,9 +26,9 @@ pub struct Item {
 }
 
 // Between calls the host speaks.
-#[derive(Clone, Copy)]
-pub struct Listener {
-    reading: Reading,
+#[derive(Drop)]
+pub struct Listener<S> {
+    reading: S,
     speaker: Speaker,
     ghost host: { from_host speaker.voice ≡ true },
 }

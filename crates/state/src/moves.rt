@@ -2,26 +2,9 @@
 ghost use Rattle.std.specs.Prelude.{◌≡◌};
 ghost use Rattle.state.specs.Moves.{goes, draws, rightward, leftward, downward, upward, toward, target};
 
+use commands::words::{Mode, Spot, Way};
 use glass::area::{Area, Position};
 use glass::stroke::Ink;
-use reader::words::Mode;
-
-#[derive(Clone, Copy, Debug, PartialEq, Eq)]
-pub enum Way {
-    Left,
-    Right,
-    Down,
-    Up,
-}
-
-// A place of the window that the cursor jumps to.
-#[derive(Clone, Copy, Debug, PartialEq, Eq)]
-pub enum Spot {
-    Home,
-    RowStart,
-    RowEnd,
-    Corner,
-}
 
 // The cursor after a move, and what the move draws.
 #[derive(Clone, Copy, Debug, PartialEq, Eq)]

@@ -2,8 +2,8 @@
 ghost use Rattle.std.specs.Prelude.{◌≡◌};
 ghost use Rattle.state.specs.Slots.{at, with_at, clear, clear_all, known, area_of, turned_to};
 
+use commands::words::Slot;
 use glass::area::{Area, WHOLE};
-use reader::words::Slot;
 
 #[derive(Clone, Copy, Debug, PartialEq, Eq)]
 pub struct Slots {

@@ -1,12 +1,12 @@
 // The window record: what is defined, which window is current, and the cursor.
 ghost use Rattle.std.specs.Prelude.{◌≡◌, true, false};
-ghost use Rattle.reader.specs.declared.words.Slot.{Slot};
+ghost use Rattle.commands.specs.declared.words.Slot.{Slot};
 ghost use Rattle.glass.specs.Places.{holds};
 ghost use Rattle.state.specs.Slots.{clears, fits, at, same, known, area_of};
 
 use crate::slots::Slots;
+use commands::words::Slot;
 use glass::area::Position;
-use reader::words::Slot;
 
 pub mod calls;
 

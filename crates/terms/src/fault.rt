@@ -1,20 +1,16 @@
 // Faults of a display: the reader's carried whole, and its own.
-ghost use Rattle.std.specs.Prelude.{◌≡◌};
+ghost use Rattle.std.specs.Prelude.{◌≡◌, true, false};
 ghost use Rattle.terms.specs.declared.fault.DisplayFault.TheVariants.{Read};
-ghost use Rattle.terms.specs.Faults.{inner, display_cause, display_first, display_second, display_operand};
+ghost use Rattle.terms.specs.Faults.{report, report_by};
 
-use reader::words::{ESC, ReadFault, US};
+use commands::outcome::ReadFault;
+use commands::words::{Name, Refusal, US};
 
+/// A command that was dropped as malformed, or refused.
 #[derive(Clone, Copy, Debug, PartialEq, Eq)]
 pub enum DisplayFault {
     Read { fault: ReadFault },
-    WindowDefined,
-    WindowTouches,
-    WindowUndefined,
-    OutsideWindow,
-    PlayRefused,
-    NoMacro,
-    RecordingFull,
+    Refused { refusal: Refusal, name: Name },
 }
 
 impl From<ReadFault> for DisplayFault {
@@ -25,83 +21,75 @@ impl From<ReadFault> for DisplayFault {
     }
 }
 
-// A fault as it is reported: of what the host said, or of what the macro played.
+/// A fault as it is reported: of what the host said, or of what the macro played.
 #[derive(Clone, Copy, Debug, PartialEq, Eq)]
 pub enum Fault {
     Said { fault: DisplayFault },
     Played { fault: DisplayFault },
 }
 
-// What a fault place holds before it is used.
+/// What a fault place holds before it is used.
 pub const UNUSED: Fault = Fault::Said {
-    fault: DisplayFault::NoMacro,
+    fault: DisplayFault::Refused {
+        refusal: Refusal::NoMacro,
+        name: Name {
+            first: US,
+            second: b'^',
+        },
+    },
 };
 
-impl Fault {
-    // The display's own fault, without who spoke.
-    pub fn inner(self) -> DisplayFault
-        ensures { result ≡ inner self }
+/// All that a fault tells.
+#[derive(Clone, Copy, Debug, PartialEq, Eq)]
+pub struct Report {
+    /// 1 to 9.
+    pub cause: u8,
+    /// The first two bytes of the command.
+    pub name: Name,
+    /// The number of the operand that is out of its range, from 1; 0 but for cause 2.
+    pub operand: u8,
+    /// Whether the macro spoke, and not the host.
+    pub played: bool,
+}
+
+impl DisplayFault {
+    fn report_by(self, played: bool) -> Report
+        ensures { result ≡ report_by played self }
     {
         match self {
-            Fault::Said { fault } | Fault::Played { fault } => fault,
+            DisplayFault::Read {
+                fault: ReadFault::Unknown { name },
+            } => Report {
+                cause: 1,
+                name,
+                operand: 0,
+                played,
+            },
+            DisplayFault::Read {
+                fault: ReadFault::OutOfRange { name, operand },
+            } => Report {
+                cause: 2,
+                name,
+                operand,
+                played,
+            },
+            DisplayFault::Refused { refusal, name } => Report {
+                cause: u8::from(refusal),
+                name,
+                operand: 0,
+                played,
+            },
         }
     }
 }
 
-impl DisplayFault {
-    pub fn cause(self) -> u8
-        ensures { result ≡ display_cause self }
+impl Fault {
+    pub fn report(self) -> Report
+        ensures { result ≡ report self }
     {
         match self {
-            DisplayFault::Read { fault } => fault.cause(),
-            DisplayFault::WindowDefined => 3,
-            DisplayFault::WindowTouches => 4,
-            DisplayFault::WindowUndefined => 5,
-            DisplayFault::OutsideWindow => 6,
-            DisplayFault::PlayRefused => 7,
-            DisplayFault::NoMacro => 8,
-            DisplayFault::RecordingFull => 9,
-        }
-    }
-
-    // The first byte of the command.
-    pub fn first(self) -> u8
-        ensures { result ≡ display_first self }
-    {
-        match self {
-            DisplayFault::Read { fault } => fault.first(),
-            DisplayFault::WindowDefined
-            | DisplayFault::WindowTouches
-            | DisplayFault::WindowUndefined => ESC,
-            DisplayFault::OutsideWindow
-            | DisplayFault::PlayRefused
-            | DisplayFault::NoMacro
-            | DisplayFault::RecordingFull => US,
-        }
-    }
-
-    // The second byte of the command.
-    pub fn second(self) -> u8
-        ensures { result ≡ display_second self }
-    {
-        match self {
-            DisplayFault::Read { fault } => fault.second(),
-            DisplayFault::WindowDefined
-            | DisplayFault::WindowTouches
-            | DisplayFault::WindowUndefined => b'W',
-            DisplayFault::OutsideWindow => b'$',
-            DisplayFault::PlayRefused | DisplayFault::NoMacro => b'^',
-            DisplayFault::RecordingFull => b':',
-        }
-    }
-
-    // The number of the operand that is out of range, or 0.
-    pub fn operand(self) -> u8
-        ensures { result ≡ display_operand self }
-    {
-        match self {
-            DisplayFault::Read { fault } => fault.operand(),
-            _ => 0,
+            Fault::Said { fault } => fault.report_by(false),
+            Fault::Played { fault } => fault.report_by(true),
         }
     }
 }

@@ -1,22 +1,21 @@
 // A command is carried out.
 ghost use Rattle.std.specs.Prelude.{◌≡◌};
-ghost use Rattle.reader.specs.declared.words.Command.TheVariants.{ClearRow, Initialize};
-ghost use Rattle.state.specs.Core.{core_of, fresh, window};
+ghost use Rattle.commands.specs.declared.words.Command.TheVariants.{ClearRow, Initialize};
 ghost use Rattle.terms.specs.Presets.{preset};
-ghost use Rattle.state.specs.Effects.{Does, effect, writes, types, plays, chooses, steps, jumps, quietly, inks, answered, stroke, drawing};
 ghost use Rattle.state.specs.declared.listener.Voice.TheVariants.{Host};
+ghost use Rattle.state.specs.Core.{core_of, fresh, window};
+ghost use Rattle.state.specs.Effects.{Does, effect, writes, types, plays, changes, chooses, steps, jumps, quietly, inks, answered, stroke, drawing};
 
 use crate::cell::{Pen, cell_of};
-use crate::controller::{Controller, Strokes};
+use crate::controller::{Machine, Strokes};
 use crate::lamp::Lamp;
-use crate::listener::{Item, Listener, Voice};
-use crate::moves::{Spot, Way};
+use crate::listener::{Item, Voice};
 use crate::tape::Tape;
 use crate::users::Users;
 use crate::windows::Windows;
+use commands::words::{Command, Mark, Mode, Name, PenChange, Refusal, Spot, Way};
 use glass::area::{Area, Position, WHOLE};
 use glass::stroke::{Ink, Stroke};
-use reader::words::{Command, Mark, Mode};
 use terms::fault::DisplayFault;
 use terms::settings::Settings;
 
@@ -31,21 +30,42 @@ fn inked(area: Area, ink: Option<Ink>) -> Option<Stroke>
     ink.map(|ink| Stroke { area, ink })
 }
 
-// The window record's answer: it draws nothing.
-fn undrawn(answer: Result<(), DisplayFault>) -> Result<Strokes, DisplayFault>
-    ensures { result ≡ answered answer }
+// Nothing is drawn, or a command of this name is refused.
+fn answered(name: Name, answer: Result<(), Refusal>) -> Result<Strokes, DisplayFault>
+    ensures { result ≡ answered name answer }
 {
-    answer.map(|_| NO_STROKES)
+    match answer {
+        Ok(()) => Ok(NO_STROKES),
+        Err(refusal) => Err(DisplayFault::Refused { refusal, name }),
+    }
 }
 
-impl Controller {
-    // The controller of a new display.
-    pub fn new(settings: Settings) -> Controller
+impl Pen {
+    fn change(self, change: PenChange) -> Pen
+        ensures { result ≡ changes change self }
+    {
+        match change {
+            PenChange::Mode { mode } => Pen { mode, ..self },
+            PenChange::Set { number } => Pen {
+                set: number,
+                ..self
+            },
+            PenChange::Table { number } => Pen {
+                table: number,
+                ..self
+            },
+            PenChange::User { on } => Pen { user: on, ..self },
+        }
+    }
+}
+
+impl Machine {
+    /// That of a new display.
+    pub fn new(settings: Settings) -> Machine
         ensures { core_of result ≡ fresh (preset settings) }
     {
-        Controller {
+        Machine {
             settings,
-            listener: Listener::new(),
             windows: Windows::new(),
             pen: Pen {
                 mode: Mode::Overwrite,
@@ -118,12 +138,12 @@ impl Controller {
     }
 
     // The host starts the macro.
-    fn play(&mut self, voice: Voice, wait: u8, gap: u8) -> Result<Strokes, DisplayFault>
-        ensures { Does (plays voice wait gap (core_of self.old)) result (core_of self.new) }
+    fn play(&mut self, voice: Voice, wait: u8, gap: u8, name: Name) -> Result<Strokes, DisplayFault>
+        ensures { Does (plays voice name wait gap (core_of self.old)) result (core_of self.new) }
     {
         match voice {
-            Voice::Host => undrawn(self.tape.play(wait, gap)),
-            Voice::Macro => Err(DisplayFault::PlayRefused),
+            Voice::Host => answered(name, self.tape.play(wait, gap)),
+            Voice::Macro => answered(name, Err(Refusal::PlayRefused)),
         }
     }
 
@@ -157,7 +177,7 @@ impl Controller {
     fn initialize(&mut self) -> Result<Strokes, DisplayFault>
         ensures { Does (effect Host Initialize (core_of self.old)) result (core_of self.new) }
     {
-        *self = Controller::new(self.settings);
+        *self = Machine::new(self.settings);
         Ok(Strokes {
             first: Some(Stroke {
                 area: WHOLE,
@@ -172,46 +192,28 @@ impl Controller {
         ensures { Does (effect item.voice item.command (core_of self.old)) result (core_of self.new) }
     {
         match item.command {
-            Command::Character { code } => return self.type_in(code, None),
-            Command::Marked { mark, code } => return self.type_in(code, Some(mark)),
-            Command::Left => return self.step(Way::Left),
-            Command::Right => return self.step(Way::Right),
-            Command::Down => return self.step(Way::Down),
-            Command::Up => return self.step(Way::Up),
-            Command::Home => return self.jump(Spot::Home),
-            Command::RowStart => return self.jump(Spot::RowStart),
-            Command::RowEnd => return self.jump(Spot::RowEnd),
-            Command::Corner => return self.jump(Spot::Corner),
+            Command::Character { code, mark } => return self.type_in(code, mark),
+            Command::Move { way } => return self.step(way),
+            Command::Jump { spot } => return self.jump(spot),
+            Command::GoTo { to, name } => return answered(name, self.windows.go_to(to)),
             Command::Clear => return self.clear(Ink::Blank, Spot::Home),
             Command::ClearRow => return self.clear_row(),
-            Command::GoTo { x, y } => return undrawn(self.windows.go_to(x, y)),
-            Command::DefineWindow {
-                slot,
-                x1,
-                y1,
-                x2,
-                y2,
-            } => return undrawn(self.windows.define(slot, Area { x1, y1, x2, y2 })),
-            Command::CancelWindow { slot } => return undrawn(self.windows.cancel(slot)),
-            Command::TurnToWindow { window } => return undrawn(self.windows.turn(window)),
+            Command::Window { change, name } => return answered(name, self.windows.change(change)),
+            Command::Play { wait, gap, name } => return self.play(item.voice, wait, gap, name),
             Command::Initialize => return self.initialize(),
-            Command::Play { wait, gap } => return self.play(item.voice, wait, gap),
-            Command::Select { on } => self.select(item.voice, on),
-            Command::SetMode { mode } => self.pen.mode = mode,
-            Command::UseSet { set } => self.pen.set = set,
-            Command::UseTable { table } => self.pen.table = table,
-            Command::UserCharacters { on } => self.pen.user = on,
+            Command::Pen { change } => self.pen = self.pen.change(change),
             Command::Cursor { shown } => self.shown = shown,
             Command::Brightness { level } => self.brightness = level,
             Command::Blink { period } => self.lamp = Lamp::set(period),
-            Command::Record => self.tape.record(),
             Command::Define { code, columns } => self.users.set(code, Some(columns)),
             Command::Forget { code } => self.users.set(code, None),
+            Command::Record => self.tape.record(),
+            Command::Select { on } => self.select(item.voice, on),
         }
         Ok(NO_STROKES)
     }
 
-    // ESC = from the macro does nothing.
+    // From the macro it does nothing.
     fn select(&mut self, voice: Voice, on: bool)
         ensures { core_of self.new ≡ chooses voice on (core_of self.old) }
     {

@@ -2,15 +2,24 @@
 ghost use Rattle.std.specs.Prelude.{◌≡◌};
 ghost use Rattle.state.specs.Core.{core_of};
 ghost use Rattle.state.specs.Effects.{one};
-ghost use Rattle.state.specs.Model.{obeyed, told, heeded, ended, ending, kept, overflows, reported, strokes_in, fault_of, Replies, Moves};
+ghost use Rattle.terms.specs.Presets.{preset};
+ghost use Rattle.state.specs.Model.{obeyed, told, heeded, ended, ending, kept, overflows, reported, strokes_in, fault_of, forgotten, Replies, Moves, Begins};
 
 use crate::controller::carry::NO_STROKES;
-use crate::controller::{Controller, HostReply, Reply, Strokes};
-use crate::listener::{Item, Voice};
-use crate::moves::Spot;
+use crate::controller::{Controller, HostReply, Machine, Reply, Strokes};
+use crate::listener::{Item, Listener, Voice};
+use commands::outcome::ReadFault;
+use commands::sets::CommandSets;
+use commands::words::{Command, Name, Spot, US};
 use glass::stroke::{Ink, Stroke};
-use reader::words::{Command, ReadFault};
 use terms::fault::{DisplayFault, Fault};
+use terms::settings::Settings;
+
+// The command that opens and closes recordings, of which a recording that is too long is told.
+const RECORDING: Name = Name {
+    first: US,
+    second: b':',
+};
 
 // Whether an item is carried out while the display is deselected.
 fn is_heeded(item: Item) -> bool
@@ -34,7 +43,7 @@ fn told(voice: Voice, fault: DisplayFault) -> Fault
 
 // What is drawn and reported of an answer.
 #[inline(always)]
-fn reply(voice: Voice, selected: bool, answer: Result<Strokes, DisplayFault>) -> Reply
+pub(crate) fn reply(voice: Voice, selected: bool, answer: Result<Strokes, DisplayFault>) -> Reply
     ensures strokes { result.strokes ≡ strokes_in answer }
     ensures fault { fault_of result.fault ≡ reported voice selected answer }
 {
@@ -50,10 +59,13 @@ fn reply(voice: Voice, selected: bool, answer: Result<Strokes, DisplayFault>) ->
     }
 }
 
-impl Controller {
+impl Machine {
     // Carries out what was heard. (Two clauses, since an act is no `Effect`: it tells what was carried out as well.)
     #[inline(always)]
-    fn obey(&mut self, heard: Result<Option<Item>, ReadFault>) -> Result<Strokes, DisplayFault>
+    pub(crate) fn obey(
+        &mut self,
+        heard: Result<Option<Item>, ReadFault>,
+    ) -> Result<Strokes, DisplayFault>
         ensures answer { result ≡ (obeyed heard (core_of self.old)).answer }
         ensures core { core_of self.new ≡ (obeyed heard (core_of self.old)).core }
     {
@@ -74,7 +86,6 @@ impl Controller {
         }
         let area = self.windows.here();
         self.tape.stop();
-        self.listener.forget();
         self.windows.jump(Spot::Home);
         Some(Stroke {
             area,
@@ -91,18 +102,55 @@ impl Controller {
         if !self.selected {
             return None;
         }
-        self.tape.store(byte).map(|fault| Fault::Said { fault })
+        self.tape.store(byte).map(|refusal| Fault::Said {
+            fault: DisplayFault::Refused {
+                refusal,
+                name: RECORDING,
+            },
+        })
+    }
+}
+
+impl<S: CommandSets> Controller<S> {
+    /// The controller of a new display.
+    pub fn new(settings: Settings) -> Controller<S>
+        ensures { Begins S.reads (preset settings) result }
+    {
+        Controller {
+            listener: Listener::new(),
+            machine: Machine::new(settings),
+        }
+    }
+
+    /// All but what is being read.
+    #[inline(always)]
+    pub fn machine(&self) -> &Machine
+        ensures { result.now ≡ self.now.machine }
+    {
+        &self.machine
+    }
+
+    // The end of a playback forgets a half-read command.
+    #[inline(always)]
+    fn forget(&mut self)
+        ensures reading { self.new.listener.reading ≡ forgotten S.reads self.old.listener.reading (core_of self.old.machine) }
+        ensures machine { self.new.machine ≡ self.old.machine }
+    {
+        if self.machine.tape.is_playing() {
+            self.listener.forget();
+        }
     }
 
     #[inline(always)]
     pub fn byte(&mut self, byte: u8) -> HostReply
-        ensures { Replies byte self.old result self.new }
+        ensures { Replies S.reads byte self.old result self.new }
     {
-        let ending = self.end_playback();
-        let overflow = self.keep(byte);
-        let selected = self.selected;
+        self.forget();
+        let ending = self.machine.end_playback();
+        let overflow = self.machine.keep(byte);
+        let selected = self.machine.selected;
         let heard = self.listener.heard(byte);
-        let answer = self.obey(heard);
+        let answer = self.machine.obey(heard);
         HostReply {
             ending,
             overflow,
@@ -112,19 +160,19 @@ impl Controller {
 
     // Ten milliseconds pass: the lamp moves, and then the macro.
     pub fn tick(&mut self) -> Reply
-        ensures { Moves self.old result self.new }
+        ensures { Moves S.reads self.old result self.new }
     {
-        let lamp = self.lamp.ticked();
-        self.lamp = lamp;
-        let Some(byte) = self.tape.tick() else {
+        let lamp = self.machine.lamp.ticked();
+        self.machine.lamp = lamp;
+        let Some(byte) = self.machine.tape.tick() else {
             return Reply {
                 strokes: NO_STROKES,
                 fault: None,
             };
         };
-        let selected = self.selected;
+        let selected = self.machine.selected;
         let played = self.listener.played(byte);
-        let answer = self.obey(played);
+        let answer = self.machine.obey(played);
         reply(Voice::Macro, selected, answer)
     }
 }

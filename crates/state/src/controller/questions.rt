@@ -6,9 +6,9 @@ ghost use Rattle.state.specs.Layouts.{cursor_of, window_area};
 ghost use Rattle.state.specs.Questions.{modes_of, mode_numbers, user_of, macro_of};
 
 use crate::cell::user_bits;
-use crate::controller::Controller;
+use crate::controller::Machine;
+use commands::words::{Mode, Slot};
 use glass::area::{Area, Position};
-use reader::words::{Mode, Slot};
 
 // The state that is neither glass, cursor, windows, user characters nor macro.
 #[derive(Clone, Copy, Debug, PartialEq, Eq)]
@@ -48,7 +48,7 @@ impl Modes {
     }
 }
 
-impl Controller {
+impl Machine {
     pub fn cursor(&self) -> Position
         ensures { result ≡ cursor_of (core_of self.now).layout }
     {

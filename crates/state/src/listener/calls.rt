@@ -1,12 +1,14 @@
 // Bytes are heard: the host's, and the macro's under a guard.
-ghost use Rattle.std.specs.Prelude.{◌≡◌, is_some};
-ghost use Rattle.reader.specs.declared.words.Reading.TheVariants.{Rest};
+ghost use Rattle.std.specs.Prelude.{◌≡◌};
+ghost use Rattle.commands.specs.declared.words.Dialect.TheVariants.{EscPos};
+ghost use Rattle.commands.specs.Sets.{Glances};
 ghost use Rattle.state.specs.declared.listener.Voice.TheVariants.{Host, Macro};
-ghost use Rattle.state.specs.Heard.{Hears};
-ghost use Rattle.state.specs.Shorts.{GoesOn, stage, awaited, goes_on, mark_in};
+ghost use Rattle.state.specs.Heard.{Hears, heard_as};
 
 use crate::listener::{Item, Listener, Speaker, Voice};
-use reader::words::{ESC, Mark, Outcome, ReadFault, Reading, Step, US};
+use commands::outcome::{Glance, Outcome, ReadFault};
+use commands::sets::CommandSets;
+use commands::words::{Command, Dialect};
 
 // The macro speaks while this stands; the host speaks again once it is let go.
 struct Speaking<'a> {
@@ -32,95 +34,63 @@ impl<'a> Speaking<'a> {
     }
 }
 
-// Reads one byte; the item bears who speaks.
+// What an outcome is heard as; the item bears who speaks.
 #[inline(always)]
-fn hear(speaker: &Speaker, reading: &mut Reading, byte: u8) -> Result<Option<Item>, ReadFault>
-    ensures { Hears speaker.now.voice reading.old byte result reading.new }
+fn heard_as(voice: Voice, outcome: Outcome) -> Result<Option<Item>, ReadFault>
+    ensures { result ≡ heard_as voice outcome }
 {
-    let Step { next, outcome } = reading.take(byte);
-    *reading = next;
-    let voice = speaker.voice;
     match outcome {
         Outcome::Pending | Outcome::Ignored => Ok(None),
-        Outcome::Complete { command } | Outcome::Partial { command } => Ok(Some(Item {
+        Outcome::Complete { command } => Ok(Some(Item { voice, command })),
+        Outcome::Partial { code, columns } => Ok(Some(Item {
             voice,
-            command,
+            command: Command::Define { code, columns },
         })),
         Outcome::Faulty { fault } => Err(fault),
     }
 }
 
-impl Listener {
-    pub(crate) fn new() -> Listener
-        ensures { result.reading ≡ Rest }
+impl<S: CommandSets> Listener<S> {
+    pub(crate) fn new() -> Listener<S>
+        ensures { result.reading ≡ S.reads.rest EscPos }
     {
         Listener {
-            reading: Reading::Rest,
+            reading: S::at_rest(Dialect::EscPos),
             speaker: Speaker { voice: Voice::Host },
         }
     }
 
-    pub(crate) fn reading(&self) -> Reading
-        ensures { result ≡ self.now.reading }
-    {
-        self.reading
-    }
-
-    // Whether the next byte, from 20h on, is a character.
-    pub(crate) fn awaits_character(&self) -> bool
-        ensures { result ≡ is_some (awaited (stage self.now.reading)) }
-    {
-        matches!(self.reading, Reading::Rest | Reading::MarkedN { .. })
-    }
-
-    // The mark of the character that the next byte is.
-    pub(crate) fn mark(&self) -> Option<Mark>
-        ensures { result ≡ mark_in (awaited (stage self.now.reading)) }
-    {
-        match self.reading {
-            Reading::MarkedN { mark } => Some(mark),
-            _ => None,
-        }
-    }
-
-    // Reads a byte of the host with which a frequent command only goes on; any other is not read.
-    pub(crate) fn goes_on(&mut self, byte: u8) -> bool
-        ensures value { result ≡ goes_on (stage self.old.reading) byte }
-        ensures reading { GoesOn self.old.reading byte result self.new.reading }
-    {
-        let next = match (self.reading, byte) {
-            (Reading::Rest, ESC) => Reading::AfterEsc,
-            (Reading::Rest, US) => Reading::AfterUs,
-            (Reading::AfterUs, b'$') => Reading::GoToX,
-            (Reading::AfterUs, b'.') => Reading::MarkedN { mark: Mark::Point },
-            (Reading::GoToX, 1..=20) => Reading::GoToY { x: byte },
-            _ => return false,
-        };
-        self.reading = next;
-        true
-    }
-
     // A half-read command is forgotten.
+    #[inline(always)]
     pub(crate) fn forget(&mut self)
-        ensures { self.new.reading ≡ Rest }
+        ensures { self.new.reading ≡ S.reads.rest (S.reads.dialect self.old.reading) }
     {
-        self.reading = Reading::Rest;
+        self.reading.forget();
     }
 
     // A byte of the host.
     #[inline(always)]
     pub(crate) fn heard(&mut self, byte: u8) -> Result<Option<Item>, ReadFault>
-        ensures { Hears Host self.old.reading byte result self.new.reading }
+        ensures { Hears S.reads Host self.old.reading byte result self.new.reading }
     {
-        hear(&self.speaker, &mut self.reading, byte)
+        heard_as(self.speaker.voice, self.reading.take(byte))
+    }
+
+    // A byte of the host, at a glance.
+    #[inline(always)]
+    pub(crate) fn glance(&mut self, byte: u8) -> Glance
+        ensures value { result ≡ S.reads.glance self.old.reading byte }
+        ensures reading { Glances S.reads.step self.old.reading byte result self.new.reading }
+    {
+        self.reading.glance(byte)
     }
 
     // A byte of the macro. On every way out the host speaks again.
     pub(crate) fn played(&mut self, byte: u8) -> Result<Option<Item>, ReadFault>
-        ensures item { Hears Macro self.old.reading byte result self.new.reading }
+        ensures item { Hears S.reads Macro self.old.reading byte result self.new.reading }
         ensures host { self.new.speaker.voice ≡ Host }
     {
         let guard = Speaking::start(&mut self.speaker);
-        hear(guard.speaker, &mut self.reading, byte)
+        heard_as(guard.speaker.voice, self.reading.take(byte))
     }
 }

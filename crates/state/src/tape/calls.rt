@@ -4,7 +4,7 @@ ghost use Rattle.state.specs.Reels.{lawful_reel, is_playing, is_recording};
 ghost use Rattle.state.specs.Tapes.{reel_of, blank_reel, recorded, stored, overflow, playing, stopped, wound, due, macro_byte};
 
 use crate::tape::{Tape, Use};
-use terms::fault::DisplayFault;
+use commands::words::Refusal;
 
 // The most bytes that a recording stores.
 const MOST: u8 = 82;
@@ -52,7 +52,7 @@ impl Tape {
     }
 
     // A recording stores a byte; the eighty-third ends it.
-    pub(crate) fn store(&mut self, byte: u8) -> Option<DisplayFault>
+    pub(crate) fn store(&mut self, byte: u8) -> Option<Refusal>
         ensures fault { result ≡ overflow (reel_of self.old) }
         ensures reel { reel_of self.new ≡ stored (reel_of self.old) byte }
     {
@@ -64,20 +64,20 @@ impl Tape {
             }
             Use::Recording => {
                 self.set(0, Use::Blank);
-                Some(DisplayFault::RecordingFull)
+                Some(Refusal::RecordingFull)
             }
             _ => None,
         }
     }
 
     // Starts to play at a pace. (Two clauses: no other call of a tape answers so.)
-    pub(crate) fn play(&mut self, n: u8, m: u8) -> Result<(), DisplayFault>
+    pub(crate) fn play(&mut self, n: u8, m: u8) -> Result<(), Refusal>
         ensures answer { result ≡ (playing (reel_of self.old) n m).answer }
         ensures left { reel_of self.new ≡ (playing (reel_of self.old) n m).left }
     {
         match self.current {
-            Use::Recording => Err(DisplayFault::PlayRefused),
-            Use::Blank => Err(DisplayFault::NoMacro),
+            Use::Recording => Err(Refusal::PlayRefused),
+            Use::Blank => Err(Refusal::NoMacro),
             _ => {
                 self.current = Use::Playing {
                     n,

@@ -2,16 +2,16 @@
 ghost use Rattle.std.specs.Prelude.{◌≡◌, true};
 ghost use Rattle.glass.specs.Places.{holds};
 ghost use Rattle.state.specs.Slots.{area_of};
-ghost use Rattle.state.specs.Layouts.{Turns, layout, new_layout, here, at_spot, turning, cancelling, defining, going, window_area, cursor_of, stepped, jumped};
+ghost use Rattle.state.specs.Layouts.{Turns, layout, new_layout, here, at_spot, turning, cancelling, defining, changing, going, window_area, cursor_of, stepped, jumped};
 ghost use Rattle.state.specs.Moves.{toward, target};
 
-use crate::moves::{Spot, Way, target, toward};
+use crate::moves::{target, toward};
 use crate::slots::{Slots, is_current};
 use crate::windows::Windows;
+use commands::words::{Mode, Refusal, Slot, Spot, Way, WindowChange};
 use glass::area::{Area, Position, WHOLE};
+use glass::frame::{Frame, GlassPosition};
 use glass::stroke::Ink;
-use reader::words::{Mode, Slot};
-use terms::fault::DisplayFault;
 
 impl Windows {
     pub(crate) fn new() -> Windows
@@ -82,38 +82,48 @@ impl Windows {
         self.go(target(spot, self.here(), self.cursor.row));
     }
 
-    // Column x and row y of the window, counted from its corner.
-    pub(crate) fn go_to(&mut self, x: u8, y: u8) -> Result<(), DisplayFault>
-        ensures { Turns (going x y (layout self.old)) result (layout self.new) }
+    // The column and the row are counted from the window's corner.
+    pub(crate) fn go_to(&mut self, to: GlassPosition) -> Result<(), Refusal>
+        ensures { Turns (going to (layout self.old)) result (layout self.new) }
     {
         let area = self.here();
         let at = Position {
-            column: area.x1.saturating_add(x).saturating_sub(1),
-            row: area.y1.saturating_add(y).saturating_sub(1),
+            column: area.x1 + to.at.column - 1,
+            row: area.y1 + to.at.row - 1,
         };
         if !area.holds(at) {
-            return Err(DisplayFault::OutsideWindow);
+            return Err(Refusal::OutsideWindow);
         }
         self.go(at);
         Ok(())
     }
 
-    pub(crate) fn turn(&mut self, window: Option<Slot>) -> Result<(), DisplayFault>
+    pub(crate) fn change(&mut self, change: WindowChange) -> Result<(), Refusal>
+        ensures { Turns (changing change (layout self.old)) result (layout self.new) }
+    {
+        match change {
+            WindowChange::Define { slot, frame } => self.define(slot, frame),
+            WindowChange::Cancel { slot } => self.cancel(slot),
+            WindowChange::TurnTo { window } => self.turn(window),
+        }
+    }
+
+    fn turn(&mut self, window: Option<Slot>) -> Result<(), Refusal>
         ensures { Turns (turning window (layout self.old)) result (layout self.new) }
     {
         if !self.slots.know(window) {
-            return Err(DisplayFault::WindowUndefined);
+            return Err(Refusal::WindowUndefined);
         }
         self.current = window;
         self.cursor = self.slots.area(window).home();
         Ok(())
     }
 
-    pub(crate) fn cancel(&mut self, n: Slot) -> Result<(), DisplayFault>
+    fn cancel(&mut self, n: Slot) -> Result<(), Refusal>
         ensures { Turns (cancelling n (layout self.old)) result (layout self.new) }
     {
         if self.slots.at(n).is_none() {
-            return Err(DisplayFault::WindowUndefined);
+            return Err(Refusal::WindowUndefined);
         }
         if is_current(self.current, n) {
             self.current = None;
@@ -123,17 +133,15 @@ impl Windows {
         Ok(())
     }
 
-    pub(crate) fn define(&mut self, n: Slot, area: Area) -> Result<(), DisplayFault>
-        ensures { Turns (defining n area (layout self.old)) result (layout self.new) }
+    fn define(&mut self, n: Slot, frame: Frame) -> Result<(), Refusal>
+        ensures { Turns (defining n frame.area (layout self.old)) result (layout self.new) }
     {
-        if !area.is_lawful() {
-            return Ok(());
-        }
+        let area = frame.area;
         if self.slots.at(n).is_some() {
-            return Err(DisplayFault::WindowDefined);
+            return Err(Refusal::WindowDefined);
         }
         if !self.slots.leave_clear(area) {
-            return Err(DisplayFault::WindowTouches);
+            return Err(Refusal::WindowTouches);
         }
         self.slots = self.slots.with(n, Some(area));
         self.current = Some(n);

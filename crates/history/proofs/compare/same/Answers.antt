@@ -12,5 +12,5 @@ returns g c =
     record {
       answers = Decides-like c.same_parts.result (from_parts p.make q.make a b) (to_parts p.make q.make a b) c.same_parts.ensures;
       glass = λ e. same_cells p.make q.make a b (g.met.P.Panel.laws.forty a.panel) (g.met.Q.Panel.laws.forty b.panel) (from_parts p.make q.make a b (c.same_parts.ensures.0 e));
-      history = history p.make g.met.P.Panel.laws q.make g.met.Q.Panel.laws;
+      history = history p.make g.met.P.Panel.laws q.make g.met.Q.Panel.laws g.S.CommandSets.reads g.met.S.CommandSets.laws;
     }

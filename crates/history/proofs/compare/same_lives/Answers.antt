@@ -11,8 +11,8 @@ returns-then-same g c =
     record {
       answers = (λ e. (c.same.ensures.answers.0 c.if-same.true, both.0 e), λ h. both.1 h.1);
       twins = λ settings es la lb.
-          both.1 (told p.make g.met.P.Panel.laws q.make g.met.Q.Panel.laws _ _ _ _ settings es la lb).1;
-      history = history p.make g.met.P.Panel.laws q.make g.met.Q.Panel.laws;
+          both.1 (told p.make g.met.P.Panel.laws q.make g.met.Q.Panel.laws g.S.CommandSets.reads g.met.S.CommandSets.laws _ _ _ _ settings es la lb).1;
+      history = history p.make g.met.P.Panel.laws q.make g.met.Q.Panel.laws g.S.CommandSets.reads g.met.S.CommandSets.laws;
     }
 
 pub returns-else-same : goal.returns-else-same
@@ -23,6 +23,6 @@ returns-else-same g c =
     record {
       answers = (λ e. absurd (false≢true (sym c.if-same.false ∙ e)), λ h. glass.1 h.0);
       twins = λ settings es la lb.
-          glass.1 (told p.make g.met.P.Panel.laws q.make g.met.Q.Panel.laws _ _ _ _ settings es la lb).0;
-      history = history p.make g.met.P.Panel.laws q.make g.met.Q.Panel.laws;
+          glass.1 (told p.make g.met.P.Panel.laws q.make g.met.Q.Panel.laws g.S.CommandSets.reads g.met.S.CommandSets.laws _ _ _ _ settings es la lb).0;
+      history = history p.make g.met.P.Panel.laws q.make g.met.Q.Panel.laws g.S.CommandSets.reads g.met.S.CommandSets.laws;
     }

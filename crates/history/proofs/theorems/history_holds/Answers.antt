@@ -3,6 +3,4 @@ use Rattle.history.proofs.theorems.history_holds.Goals as goal
 
 pub returns : goal.returns
 returns g c =
-    let p = g.P.Panel in
-    let q = g.Q.Panel in
-    history p.make g.met.P.Panel.laws q.make g.met.Q.Panel.laws
+    history g.P.Panel.make g.met.P.Panel.laws g.Q.Panel.make g.met.Q.Panel.laws g.S.CommandSets.reads g.met.S.CommandSets.laws

@@ -1,0 +1,4 @@
+pub mod Numbers
+pub mod Items
+pub mod Sets
+pub mod Held

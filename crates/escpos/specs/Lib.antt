@@ -1,0 +1,7 @@
+pub mod Names
+pub mod Numbers
+pub mod Steps
+pub mod Groups
+pub mod Glances
+pub mod Laws
+pub mod Classes

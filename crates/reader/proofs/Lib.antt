@@ -1,3 +1,0 @@
-mod Pages
-pub mod Stepped
-pub mod Cancels

@@ -1,5 +1,0 @@
-use Rattle.reader.proofs.Pages.{table_agrees}
-use Rattle.reader.proofs.classes.classes_agree.Goals as goal
-
-pub returns-clause-agree : goal.returns-clause-agree
-returns-clause-agree c = table_agrees
