@@ -159,6 +159,7 @@ impl<S: CommandSets> Controller<S> {
     }
 
     // Ten milliseconds pass: the lamp moves, and then the macro.
+    #[inline(always)]
     pub fn tick(&mut self) -> Reply
         ensures { Moves S.reads self.old result self.new }
     {
