@@ -1,5 +1,5 @@
 // The lines of a script: those before a display is on, and those while one is on.
-ghost use Rattle.std.specs.Prelude.{◌<◌, length, IfOk, IfSome};
+ghost use Rattle.std.specs.Prelude.{◌<◌, length, IfSome};
 ghost use Rattle.pole.specs.Left.{NoMore};
 
 use crate::answers::{Glass, Told, ToldFault};
@@ -35,26 +35,35 @@ pub struct Play<'r> {
     room: usize,
 }
 
-// A line of the script, by its number, and its words.
-#[derive(Drop)]
-struct Line<'a> {
+// A line of the script, by its number, and its words. (They are lent, and no vector of its own: a line is then read at once
+// from where it was written.)
+#[derive(Clone, Copy)]
+struct Line<'b, 'a> {
     number: usize,
     text: &'a [u8],
-    words: Vec<&'a [u8]>,
+    words: &'b [&'a [u8]],
 }
 
-impl<'a> Line<'a> {
+impl<'b, 'a> Line<'b, 'a> {
     fn request(&self) -> Result<Request, Mistake> {
-        request(self.words.as_slice())
+        request(self.words)
     }
 
     // The words after the first.
-    fn operands(&self) -> &[&'a [u8]] {
-        match self.words.as_slice() {
+    fn operands(&self) -> &'b [&'a [u8]] {
+        match self.words {
             [_, operands @ ..] => operands,
             [] => &[],
         }
     }
+}
+
+// The next line of a script.
+fn next_line<'a>(lines: &mut Lines<'a>) -> Option<&'a [u8]>
+    ensures less { IfSome result (λ _. length lines.new.rest.now < length lines.old.rest.now) }
+    ensures no_more { NoMore lines.old lines.new }
+{
+    lines.next()
 }
 
 impl<'r> Play<'r> {
@@ -66,24 +75,15 @@ impl<'r> Play<'r> {
         })
     }
 
-    // The next line of the script.
-    fn line<'a>(&self, lines: &mut Lines<'a>) -> anyhow::Result<Option<Line<'a>>>
-        ensures less { IfOk result (λ o. IfSome o (λ _. length lines.new.rest.now < length lines.old.rest.now)) }
-        ensures no_more { NoMore lines.old lines.new }
-    {
-        let Some(text) = lines.next() else {
-            return Ok(None);
-        };
-        Ok(Some(Line {
-            number: lines.number(),
-            text,
-            words: words(self.rt.alloc(), text)?,
-        }))
-    }
-
     // Every line is answered; a display that is still on at the end is switched off silently.
     pub fn run(&mut self, lines: &mut Lines<'_>) -> anyhow::Result<()> {
-        while let Some(line) = self.line(lines)? {
+        while let Some(text) = next_line(lines) {
+            let words = words(self.rt.alloc(), text)?;
+            let line = Line {
+                number: lines.number(),
+                text,
+                words: words.as_slice(),
+            };
             match line.request() {
                 Ok(
                     Request::On {
@@ -105,7 +105,7 @@ impl<'r> Play<'r> {
         Ok(())
     }
 
-    fn error(&self, line: &Line<'_>, mistake: Mistake) -> anyhow::Result<()> {
+    fn error(&self, line: &Line<'_, '_>, mistake: Mistake) -> anyhow::Result<()> {
         println!(self.rt; "error {}: {mistake}", line.number)?;
         Ok(())
     }
@@ -116,7 +116,7 @@ impl<'r> Play<'r> {
     }
 
     // What needs no display; false for all else.
-    fn answer(&mut self, line: &Line<'_>, request: Request) -> anyhow::Result<bool> {
+    fn answer(&mut self, line: &Line<'_, '_>, request: Request) -> anyhow::Result<bool> {
         match request {
             Request::Nothing => {}
             Request::Room { places } => {
@@ -129,7 +129,7 @@ impl<'r> Play<'r> {
         Ok(true)
     }
 
-    fn items(&self, line: &Line<'_>) -> anyhow::Result<()> {
+    fn items(&self, line: &Line<'_, '_>) -> anyhow::Result<()> {
         let heap = self.rt.alloc();
         let Some(bytes) = hex_bytes(heap, line.operands())? else {
             return self.error(line, Mistake::NoByte);
@@ -173,7 +173,13 @@ impl<'r> Play<'r> {
     {
         let mut life = Life::switch_on(self.rt.alloc(), settings, panel);
         println!(self.rt; "on")?;
-        while let Some(line) = self.line(lines)? {
+        while let Some(text) = next_line(lines) {
+            let words = words(self.rt.alloc(), text)?;
+            let line = Line {
+                number: lines.number(),
+                text,
+                words: words.as_slice(),
+            };
             match line.request() {
                 Ok(Request::Off) => {
                     println!(self.rt; "off")?;
@@ -192,7 +198,7 @@ impl<'r> Play<'r> {
     fn say<P: Made>(
         &mut self,
         life: &mut Life<P>,
-        line: &Line<'_>,
+        line: &Line<'_, '_>,
         request: Request,
     ) -> anyhow::Result<()> {
         match request {
@@ -221,7 +227,11 @@ impl<'r> Play<'r> {
         }
     }
 
-    fn feed_words<P: Panel>(&mut self, life: &mut Life<P>, line: &Line<'_>) -> anyhow::Result<()> {
+    fn feed_words<P: Panel>(
+        &mut self,
+        life: &mut Life<P>,
+        line: &Line<'_, '_>,
+    ) -> anyhow::Result<()> {
         match hex_bytes(self.rt.alloc(), line.operands())? {
             Some(bytes) => self.feed(life, bytes.as_slice()),
             None => self.error(line, Mistake::NoByte),
@@ -270,7 +280,7 @@ impl<'r> Play<'r> {
         Ok(())
     }
 
-    fn waiting<P: Made>(&self, life: &Life<P>, line: &Line<'_>) -> anyhow::Result<()> {
+    fn waiting<P: Made>(&self, life: &Life<P>, line: &Line<'_, '_>) -> anyhow::Result<()> {
         match P::pending(&life.display) {
             Some(Pending { count, all }) => {
                 println!(self.rt; "waiting {count} {}", u8::from(all))?;

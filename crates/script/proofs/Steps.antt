@@ -2,7 +2,7 @@
 use Rattle.std.proofs.Common.{◌≡◌, ℕ, suc, ◌+◌, ◌*◌, ◌/◌, ◌%◌, ◌^◌, ◌<◌, ◌≤◌, Bool, true, false, cond, not, eqb, ◌⊎◌, List, [], ◌∷◌, ◌++◌, filter, length, get_or, take, drop, Some, None, Option, sym, refl, ap, ◌∙◌, inl, inr, ⊎_elim, append_assoc, append-nil, add-one, one-add, arith, Bor}
 use native.Mathlib.Nat.{pow-le-pow_right}
 use Rattle.std.proofs.lemmas.List.{at_drop_more, at_drop_all, take_all}
-use Rattle.std.proofs.lemmas.Bool.{eq-eqb, ne_eqb, eqb-true, cond-true, cond-false, and_from, and_parts, cases_lt, not_from_false}
+use Rattle.std.proofs.lemmas.Bool.{cond_both, eq-eqb, ne_eqb, eqb-true, cond-true, cond-false, and_from, and_parts, cases_lt, not_from_false}
 use Rattle.std.proofs.lemmas.Bool.Decides.{nat_tests}
 use Rattle.std.proofs.lemmas.List.Sums.{prefix_len-le-length, fails_before_first, passes_at_first, split_at_first}
 use Rattle.std.proofs.lemmas.List.Recursion.{is_position_or_len}
@@ -122,6 +122,11 @@ gather_kept w (b ∷ bs) = gather_step (blank b) w b (slice_split blank bs) _ _ 
 -- the parts between blanks that have a byte are the words
 pub words_kept : (bs : List ℕ) → filter some (slice_split blank bs) ≡ gather [] bs
 words_kept bs = none_kept (slice_split blank bs) ∙ gather_kept [] bs
+
+-- blanks before the first word begin none
+pub gathered_from : (bs : List ℕ) → gather [] bs ≡ gather [] (from_word bs)
+gathered_from [] = refl
+gathered_from (b ∷ bs) = cond_both (blank b) _ _ (λ x. gather [] (b ∷ bs) ≡ gather [] x) (λ t. cond-true (blank b) _ _ t ∙ gathered_from bs) (λ f. refl)
 
 ended_joined : (w : List ℕ) (ws : List (List ℕ)) → flat_map (λ v. v) (ended w ws) ≡ w ++ flat_map (λ v. v) ws
 ended_joined [] ws = refl

@@ -11,10 +11,23 @@ fn is_blank(byte: u8) -> bool
     byte == b' ' || byte == b'\t'
 }
 
+// The line from its first word on.
+fn from_word(line: &[u8]) -> &[u8]
+    ensures { result.now ≡ from_word line.now }
+{
+    let start = line.iter().position(|byte| !is_blank(*byte));
+    &line[start.unwrap_or(line.len())..]
+}
+
+// (A line of blanks alone is quick: no vector is gathered for it.)
 fn split<'a>(heap: Global, line: &'a [u8]) -> Result<Vec<&'a [u8]>, AllocError>
     ensures { IfOk result (λ v. texts v.items ≡ gather [] line.now) }
 {
-    line.split(|byte| is_blank(*byte))
+    let text = from_word(line);
+    if text.is_empty() {
+        return Ok(Vec::new(heap));
+    }
+    text.split(|byte| is_blank(*byte))
         .filter(|word| !word.is_empty())
         .collect(heap)
 }
@@ -29,14 +42,6 @@ pub fn words<'a>(heap: Global, line: &'a [u8]) -> Result<Vec<&'a [u8]>, AllocErr
         [b'#', ..] => Ok(Vec::new(heap)),
         _ => split(heap, line),
     }
-}
-
-// The line from its first word on.
-fn from_word(line: &[u8]) -> &[u8]
-    ensures { result.now ≡ from_word line.now }
-{
-    let start = line.iter().position(|byte| !is_blank(*byte));
-    &line[start.unwrap_or(line.len())..]
 }
 
 // What follows the first word and one blank or tab.
