@@ -9,7 +9,7 @@ use std::fmt;
 use std::num::Saturating;
 use terms::fault::{Fault, Report};
 
-#[derive(Default, Drop)]
+#[derive(Clone, Copy, Default)]
 pub struct Seen {
     bytes: Saturating<u64>,
     ticks: Saturating<u64>,

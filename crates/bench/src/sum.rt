@@ -1,7 +1,7 @@
 // A checksum of what was seen: FNV-1a over 64 bits. (`endure` sums whole numbers; a crate for both would hold ten lines.)
 use std::fmt;
 
-#[derive(Drop)]
+#[derive(Clone, Copy)]
 pub struct Sum {
     code: u64,
 }

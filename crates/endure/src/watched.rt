@@ -6,6 +6,9 @@ use panel::Panel;
 use std::alloc::{AllocError, Global};
 use terms::fault::{Fault, UNUSED};
 
+// Room for the faults of a piece of 96 bytes and of the ticks after it: beyond `new` nothing is allocated.
+const MOST_FAULTS: usize = 512;
+
 #[derive(Drop)]
 pub struct Watched<P> {
     pub display: Display<P>,
@@ -21,7 +24,7 @@ impl<P: Panel + Drop> Watched<P> {
         Ok(Watched {
             display,
             places: vec![in heap; UNUSED; 192]?,
-            faults: Vec::new(heap),
+            faults: Vec::with_capacity(heap, MOST_FAULTS)?,
             refused: false,
         })
     }
