@@ -16,7 +16,7 @@ use Rattle.state.specs.declared.tape.Use.{Use}
 use Rattle.state.specs.declared.tape.Use.TheVariants as used
 use Rattle.state.specs.Heard.{heard_as}
 use Rattle.state.specs.Reels.{is_playing, is_recording}
-use Rattle.state.specs.Tapes.{stored_by, overflow_by, wound_by}
+use Rattle.state.specs.Tapes.{due_by, stored_by, overflow_by, wound_by}
 use Rattle.state.specs.Core.{Core}
 use Rattle.state.specs.Effects.{Effect}
 use Rattle.state.specs.Lamps.{lamp_ticked}
@@ -58,9 +58,10 @@ records_none used.Recording bs b h = absurd (true≢false h)
 records_none u bs b h = (refl, refl)
 
 -- a tape that does not play
-winds_none : (u : Use) (bs : List ℕ) → is_playing u ≡ false → wound_by u bs ≡ record { current = u; bytes = bs }
+winds_none : (u : Use) (bs : List ℕ) → is_playing u ≡ false →
+    (due_by u bs ≡ None) × (wound_by u bs ≡ record { current = u; bytes = bs })
 winds_none (used.Playing n m w k) bs h = absurd (true≢false h)
-winds_none u bs h = refl
+winds_none u bs h = (refl, refl)
 
 does_none : (b : ℕ) (c : Core) → is_playing c.tape.current ≡ false → is_recording c.tape.current ≡ false → before b c ≡ c
 does_none b c h r =
@@ -87,13 +88,16 @@ module _ {R : Type 0} (reads : Reads R) (laws : SetsLaws reads) where
   same_set : (q : R) (c : Core) → reads.dialect (forgotten reads q c) ≡ reads.dialect q
   same_set q c = cond_both (is_playing c.tape.current) _ _ (λ r. reads.dialect r ≡ reads.dialect q) (λ _. laws.starts (reads.dialect q)) (λ _. refl)
 
+  -- where nothing plays, no half-read command is forgotten
+  finds : (q : R) (c : Core) → is_playing c.tape.current ≡ false → forgotten reads q c ≡ q
+  finds q c h = cond-false (is_playing c.tape.current) _ q h
+
   -- where nothing plays or records, the byte is read in the state that it finds
   simply : (b : ℕ) (q : R) (c : Core) → is_playing c.tape.current ≡ false → is_recording c.tape.current ≡ false →
       respond reads (byte b) q c ≡ takes reads Host b [] [] q c
   simply b q c h r =
       let a = cond-false (is_playing c.tape.current) _ [] h in
-      let p = cond-false (is_playing c.tape.current) _ q h in
-      λ i. takes reads Host b (a i) (says_none b c h r i) (p i) (does_none b c h r i)
+      λ i. takes reads Host b (a i) (says_none b c h r i) (finds q c h i) (does_none b c h r i)
 
   pub malformed : Malformed reads
   malformed = record {
@@ -103,7 +107,11 @@ module _ {R : Type 0} (reads : Reads R) (laws : SetsLaws reads) where
     spared = spares;
     still = stays_still;
     none = does_none;
+    found = finds;
     ticking = λ c. refl;
-    silent = λ c h. ap (λ t. record c { lamp = lamp_ticked c.lamp; tape = t }) (winds_none c.tape.current c.tape.bytes h);
+    silent = λ c h. ap (λ t. record c { lamp = lamp_ticked c.lamp; tape = t }) (winds_none c.tape.current c.tape.bytes h).1;
+    waits = λ q c h. ap (λ o. (played reads o q (ticked c)).reading) h;
+    brings = λ q c b h. ap (λ o. played reads o q (ticked c)) h;
+    quiet = λ c h. (winds_none c.tape.current c.tape.bytes h).0;
     refused = λ v d c f h. refused_same (framed v d c) f h;
   }

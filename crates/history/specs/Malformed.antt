@@ -1,5 +1,5 @@
 -- Malformed and refused commands leave nothing behind but a fault.
-use Rattle.std.specs.Prelude.{◌≡◌, ℕ, false, cond, List, [], ◌∷◌, ◌++◌, Some, Err}
+use Rattle.std.specs.Prelude.{◌≡◌, ℕ, false, cond, List, [], ◌∷◌, ◌++◌, Some, None, Err}
 use Rattle.glass.specs.declared.stroke.Stroke.{Stroke}
 use Rattle.commands.specs.declared.words.Command.{Command}
 use Rattle.commands.specs.declared.outcome.Outcome.TheVariants.{Faulty}
@@ -15,7 +15,7 @@ use Rattle.state.specs.Reels.{is_playing, is_recording}
 use Rattle.state.specs.Tapes.{due}
 use Rattle.state.specs.Core.{Core}
 use Rattle.state.specs.Effects.{effect}
-use Rattle.state.specs.Model.{Response, byte, tick, told, ending, ended, overflows, before, ticked, forgotten, respond}
+use Rattle.state.specs.Model.{Response, byte, tick, told, ending, ended, overflows, before, ticked, forgotten, takes, respond}
 
 -- what a host byte leaves alone before it is read: all but the cursor and the tape
 pub record Spared (c e : Core) : Type 0 where
@@ -53,8 +53,15 @@ module _ {R : Type 0} (reads : Reads R) where
     pub spared : (b : ℕ) (c : Core) → Spared c (before b c)
     pub still : (b : ℕ) (c : Core) → is_playing c.tape.current ≡ false → before b c ≡ record c { tape = (before b c).tape }
     pub none : (b : ℕ) (c : Core) → is_playing c.tape.current ≡ false → is_recording c.tape.current ≡ false → before b c ≡ c
+    -- where nothing plays, it is read in the very reading that it finds
+    pub found : (q : R) (c : Core) → is_playing c.tape.current ≡ false → forgotten reads q c ≡ q
     -- a tick moves the lamp and the tape alone, and the tape only while it plays
     pub ticking : (c : Core) → ticked c ≡ record c { lamp = lamp_ticked c.lamp; tape = (ticked c).tape }
     pub silent : (c : Core) → is_playing c.tape.current ≡ false → ticked c ≡ record c { lamp = lamp_ticked c.lamp }
+    -- A tick that brings no byte of the macro leaves the reading; a byte that one brings is read in the reading that the tick finds.
+    pub waits : (q : R) (c : Core) → due c.tape ≡ None → (respond reads tick q c).reading ≡ q
+    pub brings : (q : R) (c : Core) (b : ℕ) → due c.tape ≡ Some b → respond reads tick q c ≡ takes reads Macro b [] [] q (ticked c)
+    -- where nothing plays, no tick brings one
+    pub quiet : (c : Core) → is_playing c.tape.current ≡ false → due c.tape ≡ None
     -- a well-formed command that the display refuses changes nothing
     pub refused : (v : Voice) (d : Command) (c : Core) (f : DisplayFault) → (effect v d c).answer ≡ Err f → (effect v d c).core ≡ c
