@@ -1,5 +1,5 @@
--- One happening more in a life.
-use Rattle.panel.specs.Laws.{Make}
+-- One happening more in a life, and a script more.
+use Rattle.panel.specs.Laws.{Make, Reached}
 use Rattle.std.proofs.Common.{OnOk, is_ok, cond, Ok, Err, ◌≡◌, ℕ, ◌+◌, ◌<◌, ◌≤◌, ltb, List, [], ◌∷◌, ◌++◌, length, get_or, take, Some, None, Option, Result, sym, ap, ◌∙◌, subst, subst₂, append_assoc, arith}
 use Rattle.std.proofs.lemmas.List.{append-nil, flat_map_more, take_more}
 use Rattle.std.proofs.lemmas.Option.{MatchOption-at_none}
@@ -16,7 +16,7 @@ use Rattle.display.specs.Calls.{feed_cause, free, Accepts, Refuses, Feeds, Ticks
 use Rattle.history.specs.declared.replay.words.Happening.{Happening}
 use Rattle.history.specs.declared.replay.words.Happening.TheVariants.{Byte, Tick, Painted}
 use Rattle.history.specs.Lives.{accepted, Calls, none, fed, ticked, painted, asked}
-use Rattle.history.specs.Replays.{event_of, events_of, Handled, then, Happens}
+use Rattle.history.specs.Replays.{event_of, events_of, Handled, on, then, HandlesAll, nothing, further, Happens, GoesThrough, LivesOn}
 
 -- a byte with two free places is never refused
 accepts : (b : ℕ) (l : BoundedList Fault) → 2 ≤ free l → feed_cause (b ∷ []) l ≡ None
@@ -24,6 +24,11 @@ accepts b l room = cond-false (ltb (free l) 2) (Some FewPlaces) None (le-ltb (fr
 
 events_more : (hs : List Happening) (i : ℕ) (o : Happening) → i < length hs → events_of (take i hs) ++ event_of (get_or hs i o) ≡ events_of (take (i + 1) hs)
 events_more hs i o lt = flat_map_more event_of [] (take i hs) (get_or hs i o) ∙ ap events_of (sym (take_more hs i o lt))
+
+-- what a script does to the panel that switching on left
+pub handled : {P : Type 0} (make : Make P) (p q r : P) (hs : List Happening) → Reached make.puts p q → HandlesAll make q hs r → Handled make p hs r
+handled make p q r hs o nothing = on o
+handled make p q r hs o (further {q = t} {hs = gs} h before one) = then h (handled make p q t gs o before) one
 
 module _ {P R : Type 0} (make : Make P) (reads : Reads R) where
   calls-append : (d d₁ d₂ : Display P R) (es es' : List Event) (fs fs' : List Fault) → Calls make reads d es fs d₁ → Calls make reads d₁ es' fs' d₂ →
@@ -63,14 +68,30 @@ module _ {P R : Type 0} (make : Make P) (reads : Reads R) where
       }
   gives_byte (Err e) b d d' l l' r hs given all empty two h same joined = tt
 
+  pub goes_nowhere : (d : Display P R) (fs : List Fault) → GoesThrough make reads [] d fs d fs
+  goes_nowhere d fs = record { given = []; calls = none; joined = sym (append-nil fs); panel = nothing }
+
   -- one happening more of a script
-  pub script_more : (p : P) (first d d' : Display P R) (hs : List Happening) (i : ℕ) (o x : Happening) (fs all : List Fault) → i < length hs → x ≡ get_or hs i o →
-      Calls make reads first (events_of (take i hs)) fs d × Handled make p (take i hs) d.panel → Happens make reads x d fs d' all →
-      Calls make reads first (events_of (take (i + 1) hs)) all d' × Handled make p (take (i + 1) hs) d'.panel
-  script_more p first d d' hs i o x fs all lt is before h =
+  pub script_more : (first d d' : Display P R) (hs : List Happening) (i : ℕ) (o x : Happening) (before fs all : List Fault) → i < length hs → x ≡ get_or hs i o →
+      GoesThrough make reads (take i hs) first before d fs → Happens make reads x d fs d' all →
+      GoesThrough make reads (take (i + 1) hs) first before d' all
+  script_more first d d' hs i o x before fs all lt is g h =
       let es = events_of (take i hs) in
-      let split : es ++ event_of x ≡ events_of (take (i + 1) hs) = ap (λ y. es ++ event_of y) is ∙ events_more hs i o lt in (
-        subst₂ (λ y z. Calls make reads first y z d') split (sym h.joined)
-            (calls-append first d d' es (event_of x) fs h.given before.0 h.calls),
-        subst (λ y. Handled make p y d'.panel) (ap (λ y. take i hs ++ y ∷ []) is ∙ sym (take_more hs i o lt)) (then x before.1 h.panel),
-      )
+      let split : es ++ event_of x ≡ events_of (take (i + 1) hs) = ap (λ y. es ++ event_of y) is ∙ events_more hs i o lt in
+      record {
+        given = g.given ++ h.given;
+        calls = subst (λ y. Calls make reads first y (g.given ++ h.given) d') split
+            (calls-append first d d' es (event_of x) g.given h.given g.calls h.calls);
+        joined = h.joined ∙ ap (λ y. y ++ h.given) g.joined ∙ append_assoc before g.given h.given;
+        panel = subst (λ y. HandlesAll make first.panel y d'.panel) (ap (λ y. take i hs ++ y ∷ []) is ∙ sym (take_more hs i o lt)) (further x g.panel h.panel);
+      }
+
+  -- a life goes on
+  pub lives_on : (d d' : Display P R) (hs : List Happening) (fs fs' : List Fault) → GoesThrough make reads hs d fs d' fs' → LivesOn make reads hs d fs d' fs'
+  lives_on d d' hs fs fs' g settings es life = record {
+    panel = life.panel;
+    first = life.first;
+    on = life.on;
+    calls = subst (λ y. Calls make reads life.first (es ++ events_of hs) y d') (sym g.joined)
+        (calls-append life.first d d' es (events_of hs) fs g.given life.calls g.calls);
+  }

@@ -1,4 +1,4 @@
-// A script of bytes, ticks and paintings, given to a new display.
+// A script of bytes, ticks and paintings, given to a new display, whole or in parts.
 ghost use Rattle.std.specs.Prelude.{◌≡◌, ◌++◌, IfOk, OnOk};
 ghost use Rattle.state.specs.Model.{fault_of};
 ghost use Rattle.terms.specs.Presets.{preset};
@@ -7,7 +7,7 @@ ghost use Rattle.history.specs.Bounds.{Bounds};
 ghost use Rattle.history.specs.History.{History};
 ghost use Rattle.history.specs.Malformed.{Malformed};
 ghost use Rattle.history.specs.Named.{Named};
-ghost use Rattle.history.specs.Replays.{Handled, Happens, events_of};
+ghost use Rattle.history.specs.Replays.{GoesThrough, Handled, Happens, LivesOn, events_of};
 
 use commands::sets::CommandSets;
 use display::engine::Display;
@@ -61,6 +61,20 @@ fn happen<P: Panel, S: CommandSets>(
     }
 }
 
+// The loop of both calls below.
+fn go_through<P: Panel, S: CommandSets>(
+    display: &mut Display<P, S>,
+    script: &[Happening],
+    faults: &mut Vec<Fault>,
+) -> Result<(), AllocError>
+    ensures { OnOk result (GoesThrough P.make S.reads script.now display.old faults.old.items display.new faults.new.items) }
+{
+    for happening in script {
+        happen(display, *happening, faults)?;
+    }
+    Ok(())
+}
+
 // Switches a new display on and gives it a script, each byte as a piece of its own; the faults are collected in order.
 pub fn replay<P: Panel + Drop, S: CommandSets>(
     heap: Global,
@@ -77,8 +91,18 @@ pub fn replay<P: Panel + Drop, S: CommandSets>(
 {
     let mut display = Display::switch_on(settings, panel);
     let mut faults = Vec::new(heap);
-    for happening in script {
-        happen(&mut display, *happening, &mut faults)?;
-    }
+    go_through(&mut display, script, &mut faults)?;
     Ok(Replayed { display, faults })
+}
+
+impl<P: Panel, S: CommandSets> Replayed<P, S> {
+    // Gives the display more of a script, and collects the faults after those before: a long script need not lie in one piece.
+    // After an `Err` it has gone through some of this part, and a fault of it may be missing.
+    #[tactic(auto, using(crate::proofs::Replayed::lives_on))]
+    pub fn go_on(&mut self, script: &[Happening]) -> Result<(), AllocError>
+        ensures lived { OnOk result (LivesOn P.make S.reads script.now self.old.display self.old.faults.items self.new.display self.new.faults.items) }
+        ensures script { OnOk result (GoesThrough P.make S.reads script.now self.old.display self.old.faults.items self.new.display self.new.faults.items) }
+    {
+        go_through(&mut self.display, script, &mut self.faults)
+    }
 }
