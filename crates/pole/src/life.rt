@@ -34,14 +34,14 @@ impl<P: Panel + Drop> Life<P> {
     }
 
     // Whether all that the display was given comes to the same once more: given to a new one over another panel, byte
-    // by byte, and painted at moments of its own.
+    // by byte, and painted at moments of its own. What happened goes in by parts, with the paintings between, since a copy
+    // of it with the paintings in would take its memory once more.
     fn is_same_over<Q: Panel + Drop>(&self, heap: Global, panel: Q) -> Result<bool, AllocError> {
-        let mut script = Vec::new(heap);
+        let mut again = replay(heap, self.settings, panel, &[])?;
         for happened in self.happened.as_slice().chunks(REPLAY_PAINTS) {
-            script.push(Happening::Painted)?;
-            script.extend_from_slice(happened)?;
+            again.go_on(&[Happening::Painted])?;
+            again.go_on(happened)?;
         }
-        let again = replay(heap, self.settings, panel, script.as_slice())?;
         Ok(same_lives(
             &self.display,
             self.faults.as_slice(),
