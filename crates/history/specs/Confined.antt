@@ -3,13 +3,16 @@ use Rattle.std.specs.Prelude.{◌≡◌, ℕ, Bool, true, false, List, [], ◌�
 use Rattle.glass.specs.Drawn.{within}
 use Rattle.commands.specs.declared.words.Command.{Command}
 use Rattle.commands.specs.declared.words.Command.TheVariants.{Window, Initialize}
+use Rattle.commands.specs.declared.words.WindowChange.TheVariants.{Define, Cancel, TurnTo}
 use Rattle.commands.specs.Sets.{Reads}
 use Rattle.state.specs.Core.{window}
 use Rattle.state.specs.Model.{State, Event, after, faults, carried}
 
 -- the commands that can leave the current window: those on windows, and the one that initializes
 abbrev pub turns : Command → Bool
-turns (Window change name) = true
+turns (Window (Define slot frame) name) = true
+turns (Window (Cancel slot) name) = true
+turns (Window (TurnTo window) name) = true
 turns Initialize = true
 turns command = false
 
