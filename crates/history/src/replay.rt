@@ -31,6 +31,7 @@ fn collect(faults: &mut Vec<Fault>, fault: Option<Fault>) -> Result<(), AllocErr
 }
 
 // A byte is a piece of its own, and two places are enough for its faults.
+#[tactic(auto, using(crate::proofs::Replayed::gives_byte))]
 fn give_byte<P: Panel, S: CommandSets>(
     display: &mut Display<P, S>,
     byte: u8,
