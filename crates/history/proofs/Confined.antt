@@ -16,7 +16,7 @@ use Rattle.state.specs.Reels.{is_playing}
 use Rattle.state.specs.Tapes.{due}
 use Rattle.state.specs.Core.{Core, window}
 use Rattle.state.specs.Effects.{Effect}
-use Rattle.state.specs.Model.{State, Event, byte, tick, Act, Response, did, heeded, obeyed, taken, drawn_by, takes, ended, ending, overflows, before, ticked, forgotten, played, respond, reply, next, after, carried}
+use Rattle.state.specs.Model.{State, Event, byte, tick, Act, Response, did, heeded, obeyed, taken, drawn_by, takes, ended, ending, overflows, before, ticked, forgotten, played, respond, reply, next, after, faults, carried}
 use Rattle.history.specs.Confined.{NoneTurns, Keeps, Alike, Confined}
 use Rattle.panel.proofs.Glass.{drawn-length, drawn_out, drawn_same}
 use Rattle.history.proofs.Runs.{drawn_all-length}
@@ -94,14 +94,34 @@ module _ {R : Type 0} (reads : Reads R) where
       let f = respond_if e s.reading s.core none in
       h k (ap (λ a. within a k) f.window ∙ w) ∙ all_out (window s.core) (reply reads e s).strokes s.glass f.drawing k w
 
-  -- the reply to an event does not rest on the glass
-  same_reply : (s t : State R) (e : Event) → Alike s t → reply reads e s ≡ reply reads e t
-  same_reply s t e same = λ i. respond reads e (same.reading i) (same.core i)
+  -- The reply to an event does not rest on the glass.
+  same_reply : (s t : State R) (e : Event) → s.reading ≡ t.reading → s.core ≡ t.core → reply reads e s ≡ reply reads e t
+  same_reply s t e o p = λ i. respond reads e (o i) (p i)
+
+  -- So what a run leaves beside the glass, its faults and its commands do not either.
+  pub core_after : (s t : State R) (es : List Event) → s.reading ≡ t.reading → s.core ≡ t.core →
+      ((after reads s es).reading ≡ (after reads t es).reading) × ((after reads s es).core ≡ (after reads t es).core)
+  core_after s t [] o p = (o, p)
+  core_after s t (e ∷ es) o p =
+      let r = same_reply s t e o p in
+      core_after (next reads s e) (next reads t e) es (ap (λ x. x.reading) r) (ap (λ x. x.core) r)
+
+  pub faults_after : (s t : State R) (es : List Event) → s.reading ≡ t.reading → s.core ≡ t.core → faults reads s es ≡ faults reads t es
+  faults_after s t [] o p = refl
+  faults_after s t (e ∷ es) o p =
+      let r = same_reply s t e o p in
+      λ i. (r i).faults ++ faults_after (next reads s e) (next reads t e) es (ap (λ x. x.reading) r) (ap (λ x. x.core) r) i
+
+  pub carried_after : (s t : State R) (es : List Event) → s.reading ≡ t.reading → s.core ≡ t.core → carried reads s es ≡ carried reads t es
+  carried_after s t [] o p = refl
+  carried_after s t (e ∷ es) o p =
+      let r = same_reply s t e o p in
+      λ i. (r i).carried ++ carried_after (next reads s e) (next reads t e) es (ap (λ x. x.reading) r) (ap (λ x. x.core) r) i
 
   alike_next : (s t : State R) (e : Event) → length s.glass ≡ length t.glass → Alike s t → NoneTurns (reply reads e s).carried →
       Alike (next reads s e) (next reads t e)
   alike_next s t e l same none =
-      let p = same_reply s t e same in
+      let p = same_reply s t e same.reading same.core in
       let f = respond_if e s.reading s.core none in
       record {
         reading = ap (λ r. r.reading) p;
@@ -115,7 +135,7 @@ module _ {R : Type 0} (reads : Reads R) where
   confined s t [] l same none = record { alike = same; left = λ k w. refl; right = λ k w. refl; given = refl; window = refl }
   confined s t (e ∷ es) l same none =
       let a = reply reads e s in
-      let p = same_reply s t e same in
+      let p = same_reply s t e same.reading same.core in
       let calm = none_parts a.carried (carried reads (next reads s e) es) none in
       let rest =
       confined (next reads s e) (next reads t e) es
@@ -125,6 +145,6 @@ module _ {R : Type 0} (reads : Reads R) where
         alike = rest.alike;
         left = keeps s (after reads s (e ∷ es)) e calm.0 rest.left;
         right = keeps t (after reads t (e ∷ es)) e (subst (λ r. NoneTurns r.carried) p calm.0) rest.right;
-        given = λ i. (p i).faults ++ rest.given i;
+        given = faults_after s t (e ∷ es) same.reading same.core;
         window = rest.window ∙ (respond_if e s.reading s.core calm.0).window;
       }
