@@ -1,4 +1,6 @@
 // The controller: all of a display but its glass.
+ghost use Rattle.std.specs.Prelude.{◌≡◌, ⊤};
+
 use crate::cell::Pen;
 use crate::lamp::Lamp;
 use crate::listener::Listener;
@@ -6,6 +8,7 @@ use crate::tape::Tape;
 use crate::users::Users;
 use crate::windows::Windows;
 use glass::stroke::Stroke;
+use std::alloc::AllocError;
 use terms::fault::Fault;
 use terms::settings::Settings;
 
@@ -29,10 +32,21 @@ pub struct Machine {
 }
 
 // A machine, and what it reads: over any command sets.
-#[derive(Drop)]
+#[derive(Copy)]
 pub struct Controller<S> {
     listener: Listener<S>,
     machine: Machine,
+}
+
+// By hand, as the listener's is.
+impl<S: Copy> Clone for Controller<S> {
+    ghost is_clone = { λ controller copy. copy ≡ controller };
+
+    ghost is_infallible = { λ _. ⊤ };
+
+    fn clone(&self) -> Result<Controller<S>, AllocError> {
+        Ok(*self)
+    }
 }
 
 // What a command draws, in order: never more than two, and no heap is needed.
