@@ -1,2 +1,3 @@
+pub mod Cancels
 pub mod Lawful
 pub mod Pages

@@ -4,4 +4,5 @@ pub mod Steps
 pub mod Groups
 pub mod Glances
 pub mod Laws
+pub mod Cancels
 pub mod Classes

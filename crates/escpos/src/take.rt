@@ -4,6 +4,7 @@ ghost use Rattle.commands.specs.Sets.{run, six};
 ghost use Rattle.escpos.specs.declared.reading.Reading.{Reading};
 ghost use Rattle.escpos.specs.Steps.{step};
 ghost use Rattle.escpos.specs.Laws.{escpos, escpos_laws};
+ghost use Rattle.escpos.specs.Cancels.{CancelOutcome};
 
 use crate::characters::of_character;
 use crate::names::GO_TO;
@@ -132,11 +133,13 @@ impl CommandSet for Reading {
     ghost laws = { escpos_laws };
 }
 
-/// The bytes that bring a reader to rest, however much of an item it has read; there they leave it at rest.
+/// The bytes that bring a reader to rest, however much of an item it has read; there they leave it at rest. On the way none of
+/// them initializes, selects or records.
 pub fn six_cancels() -> [u8; 6]
     ensures bytes { result ≡ six }
     ensures cancels { (r : Reading) → run escpos.step r six ≡ escpos.rest }
     ensures stays { (escpos.step escpos.rest 0x18).next ≡ escpos.rest }
+    ensures amounts { (r : Reading) → CancelOutcome (escpos.step r 0x18).outcome }
 {
     [CANCEL; 6]
 }
