@@ -133,9 +133,10 @@ pub fn draw<P: Panel>(panel: &mut P, stroke: Stroke)
             row_rightward(panel, stroke, WHOLE.y1);
             row_rightward(panel, stroke, WHOLE.y2);
         }
+        // From the last place to the first: a strip panel lists the changes in the order of the puts.
         Ink::ScrollDown => {
-            row_rightward(panel, stroke, WHOLE.y2);
-            row_rightward(panel, stroke, WHOLE.y1);
+            row_leftward(panel, stroke, WHOLE.y2);
+            row_leftward(panel, stroke, WHOLE.y1);
         }
     }
 }

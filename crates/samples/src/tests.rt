@@ -1,12 +1,15 @@
 // Each refusal, the recall, and the tempting errors, on the calls themselves.
 use display::Display;
 use display::words::{Answer, Question};
+use glass::area::Area;
+use glass::stroke::{Ink, Stroke};
 use history::compare::same;
 use history::recall::recall_bytes;
 use list::BoundedList;
+use panel::draw::draw;
 use panel::{Panel, PlainPanel};
 use std::test::Fail;
-use strip::{Change, StripPanel};
+use strip::{Change, NO_CHANGE, StripPanel};
 use terms::fault::UNUSED;
 use terms::settings::Settings;
 
@@ -189,4 +192,27 @@ fn changes_lie_in_the_lent_places(rt: HostRuntime) -> Result<(), Fail> {
     assert_eq!(rt; places[2], Change { place: 2, cell: 32 });
     assert_eq!(rt; places[49], Change { place: 9, cell: 9 });
     Ok(())
+}
+
+// The list of changes shows in which order a scroll puts its cells: downward from the last place, upward from the first.
+#[test]
+fn a_scroll_lists_its_places_in_order(rt: HostRuntime) {
+    let area = Area {
+        x1: 3,
+        y1: 1,
+        x2: 6,
+        y2: 2,
+    };
+    for (ink, places) in [
+        (Ink::ScrollDown, [25, 24, 23, 22, 5, 4, 3, 2]),
+        (Ink::ScrollUp, [2, 3, 4, 5, 22, 23, 24, 25]),
+    ] {
+        let mut lent = [NO_CHANGE; 64];
+        let mut panel = StripPanel::over(&mut lent);
+        draw(&mut panel, Stroke { area, ink });
+        assert_eq!(rt; panel.waiting(), places.len());
+        for (change, place) in panel.changes().iter().zip(places) {
+            assert_eq!(rt; change.place, place);
+        }
+    }
 }

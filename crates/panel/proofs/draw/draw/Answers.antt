@@ -1,4 +1,4 @@
-use Rattle.std.proofs.Common.{◌⊎◌, sym, ap, ◌∙◌, inl, inr, ⊎_elim, arith}
+use Rattle.std.proofs.Common.{◌⊎◌, sym, ap, ◌∙◌, inl, inr, arith}
 use Rattle.glass.specs.Places.{line}
 use Rattle.glass.specs.Drawn.{inked}
 use Rattle.panel.proofs.Puts.{reached_trans}
@@ -61,9 +61,9 @@ pub returns-in-ScrollDown : goal.returns-in-ScrollDown
 returns-in-ScrollDown g c =
     record {
       cells =
-          both_rows c.args.stroke 2 1 _ _ _ (g.met.P.Panel.laws.forty _) c.row_rightward-in-ScrollDown.ensures.cells c.row_rightward-in-ScrollDown-2.ensures.cells
+          both_rows c.args.stroke 2 1 _ _ _ (g.met.P.Panel.laws.forty _) c.row_leftward-in-ScrollDown.ensures.cells c.row_leftward-in-ScrollDown-2.ensures.cells
           (λ e. omega arith) (λ k. swapped (lines k)) (λ k l f. down_free k l (ap (λ i. line (source i k)) (sym c.in-ScrollDown.is) ∙ f));
-      reached = reached_trans c.row_rightward-in-ScrollDown.ensures.reached c.row_rightward-in-ScrollDown-2.ensures.reached;
+      reached = reached_trans c.row_leftward-in-ScrollDown.ensures.reached c.row_leftward-in-ScrollDown-2.ensures.reached;
     }
   where
     swapped : {A B : Type 0} → A ⊎ B → B ⊎ A
