@@ -3,4 +3,4 @@ use Rattle.strip.proofs.strip.StripPanel.merge.Goals as goal
 
 pub loop-place-preserved : goal.loop-place-preserved
 loop-place-preserved c =
-    merged_put _ _ _ c.as_slice-place-items.result.now c.loop-place.place-index _ c.loop-place.invariant c.loop-place-test.true c.put.ensures.forty
+    merged_put _ _ _ _ c.loop-place.place-index _ c.loop-place.invariant c.loop-place-test.true c.put.ensures.forty
