@@ -1,12 +1,15 @@
+use Rattle.std.proofs.Common.{rules}
 use Rattle.std.proofs.lemmas.Result.{IfOk-weaker}
-use Rattle.items.proofs.Joins.{drained}
+use borrow.Author.Tests.{tests}
+use Rattle.items.proofs.Joins.{told, tells_new, tells_map}
 use Rattle.items.proofs.Wholes.{whole, whole_walk}
 use Rattle.items.proofs.walk.walk.Goals as goal
 
+-- No map of the parts stands in the code: `tells_map` lets one pass that changes none, and so one that does is refused for that.
 pub returns-clause-items : goal.returns-clause-items
 returns-clause-items g c =
     let reads = g.S.CommandSets.reads in
-    IfOk-weaker c.collect.result _ _ (λ v made. rw made.2.0 (drained reads _ _ _ made.0 c.new.ensures made.1)) c.collect.ensures.ran
+    told reads c.collect.result c.collect.ensures.runs (search (rules, tests, tells_new reads, tells_map reads))
 
 pub returns-clause-whole : goal.returns-clause-whole
 returns-clause-whole g c =
