@@ -1,9 +1,9 @@
 -- One happening more in a life, and a script more.
 use Rattle.panel.specs.Laws.{Make, Reached}
-use Rattle.std.proofs.Common.{OnOk, is_ok, cond, Ok, Err, ◌≡◌, ℕ, ◌+◌, ◌<◌, ◌≤◌, ltb, List, [], ◌∷◌, ◌++◌, length, get_or, take, Some, None, Option, Result, sym, ap, ◌∙◌, subst, subst₂, append_assoc, arith}
+use Rattle.std.proofs.Common.{OnOk, is_ok, eqb, true, refl, cond, Ok, Err, ◌≡◌, ℕ, ◌+◌, ◌<◌, ◌≤◌, ltb, List, [], ◌∷◌, ◌++◌, length, get_or, take, Some, None, Option, Result, sym, ap, ◌∙◌, subst, subst₂, append_assoc, arith}
 use Rattle.std.proofs.lemmas.List.{append-nil, flat_map_more, take_more}
 use Rattle.std.proofs.lemmas.Option.{MatchOption-at_none}
-use Rattle.std.proofs.lemmas.Bool.{le-ltb, cond-false}
+use Rattle.std.proofs.lemmas.Bool.{le-ltb, cond-false, eqb-true}
 use Rattle.list.specs.declared.list.BoundedList.{BoundedList}
 use Rattle.list.specs.Entries.{entries, capacity}
 use Rattle.commands.specs.Sets.{Reads}
@@ -67,6 +67,17 @@ module _ {P R : Type 0} (make : Make P) (reads : Reads R) where
         panel = took.reached;
       }
   gives_byte (Err e) b d d' l l' r hs given all empty two h same joined = tt
+
+  -- where it has none, nothing is collected
+  pub gives_none : (b : ℕ) (d d' : Display P R) (l l' : BoundedList Fault) (r : Result ℕ FeedRefusal) (hs : List Fault) →
+      entries l ≡ [] → capacity l ≡ 2 → Feeds make reads d (b ∷ []) l r d' l' → eqb (length (entries l')) 0 ≡ true → Happens make reads (Byte b) d hs d' hs
+  gives_none b d d' l l' r hs empty two h still =
+      gives_byte {E = Unit {0}} (Ok tt) b d d' l l' r hs (entries l') hs empty two h refl
+      (sym (append-nil hs) ∙ ap (λ z. hs ++ z) (sym (nil (entries l') still)))
+    where
+      nil : (fs : List Fault) → eqb (length fs) 0 ≡ true → fs ≡ []
+      nil [] e = refl
+      nil (f ∷ fs) e = absurd (omega (arith, eqb-true _ _ e))
 
   pub goes_nowhere : (d : Display P R) (fs : List Fault) → GoesThrough make reads [] d fs d fs
   goes_nowhere d fs = record { given = []; calls = none; joined = sym (append-nil fs); panel = nothing }

@@ -42,6 +42,10 @@ fn give_byte<P: Panel, S: CommandSets>(
     let mut places = [UNUSED; 2];
     let mut list = BoundedList::over(&mut places);
     let _ = display.feed(&[byte], &mut list);
+    // Most bytes give none.
+    if list.is_empty() {
+        return Ok(());
+    }
     faults.extend_from_slice(list.as_slice())
 }
 
