@@ -1,5 +1,5 @@
 // What a line asks for, and why it may be none.
-ghost use Rattle.std.specs.Prelude.{Some};
+ghost use Rattle.std.specs.Prelude.{◌≡◌, Some};
 ghost use Rattle.requests.specs.Keywords.{why_of};
 
 use std::error::Error;
@@ -71,11 +71,12 @@ pub enum Mistake {
     DisplayOn,
 }
 
-impl fmt::Display for Mistake {
-    ghost output = { λ m. Some (why_of m) };
-
-    fn fmt<W: fmt::Write>(&self, f: &mut fmt::Formatter<W>) -> fmt::Result {
-        f.write_str(match self {
+impl Mistake {
+    // The text by which it is told.
+    pub fn why(self) -> &'static str
+        ensures { result.now ≡ why_of self }
+    {
+        match self {
             Mistake::Unknown => "no such command",
             Mistake::FewWords => "too few words",
             Mistake::ManyWords => "too many words",
@@ -86,7 +87,15 @@ impl fmt::Display for Mistake {
             Mistake::NoList => "the panel keeps no list of changes",
             Mistake::DisplayOff => "no display is on",
             Mistake::DisplayOn => "a display is on",
-        })
+        }
+    }
+}
+
+impl fmt::Display for Mistake {
+    ghost output = { λ m. Some (why_of m) };
+
+    fn fmt<W: fmt::Write>(&self, f: &mut fmt::Formatter<W>) -> fmt::Result {
+        f.write_str(self.why())
     }
 }
 
