@@ -1,14 +1,18 @@
-use Rattle.std.proofs.Common.{◌⊎◌, sym, ap, ◌∙◌, inl, inr, arith}
+use Rattle.std.proofs.Common.{◌≡◌, ◌⊎◌, sym, ap, ◌∙◌, inl, inr, arith}
 use Rattle.glass.specs.Places.{line}
 use Rattle.glass.specs.Drawn.{inked}
+use Rattle.panel.specs.Steps.{stepped}
 use Rattle.panel.proofs.Puts.{reached_trans}
 use Rattle.panel.proofs.Steps.{source, both_rows, one_row, one_step, blank_else, left_else, right_else, write_else, lines, blank_free, up_free, down_free}
 use Rattle.panel.proofs.draw.draw.Goals as goal
 
 pub returns-in-Write : goal.returns-in-Write
 returns-in-Write g c =
+    let cells = g.P.Panel.make.cells in
+    let at = c.in-Write.at in
+    let one : cells c.step.new.panel ≡ stepped c.args.stroke at.column at.row (cells c.args.panel.now) = search (arith, c.step.ensures.cells) in
     record {
-      cells = one_step c.args.stroke _ _ _ _ c.step.ensures.cells (λ look x y n. ap (λ i. inked i look x y) c.in-Write.is ∙ write_else c.in-Write.at c.in-Write.cell look x y n);
+      cells = one_step c.args.stroke _ _ _ _ one (λ look x y n. ap (λ i. inked i look x y) c.in-Write.is ∙ write_else at c.in-Write.cell look x y n);
       reached = c.step.ensures.reached;
     }
 

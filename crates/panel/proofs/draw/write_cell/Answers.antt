@@ -1,6 +1,6 @@
-use Rattle.std.proofs.Common.{◌≡◌, ◌<◌, set, sym, ap, ◌∙◌, arith}
+use Rattle.std.proofs.Common.{◌≡◌, ◌<◌, Some, None, set, sym, ap, ◌∙◌, arith}
 use Rattle.std.proofs.lemmas.Bool.{cond-true, cond-false}
-use Rattle.glass.specs.Places.{place}
+use Rattle.glass.specs.Places.{place, place_at}
 use Rattle.panel.specs.Laws.{none}
 use Rattle.panel.proofs.Puts.{reached_one}
 use Rattle.panel.proofs.Glass.{on_glass, placed_at, unplaced}
@@ -11,7 +11,8 @@ returns-in-Some g c =
     let x = c.args.at.column in
     let y = c.args.at.row in
     let cs = g.P.Panel.make.cells c.args.panel.now in
-    let at = placed_at x y c.in-Some.spot c.in-Some.ensures in
+    let placed : Some c.in-Some.spot ≡ place_at x y = search (arith, c.in-Some.ensures) in
+    let at = placed_at x y c.in-Some.spot placed in
     let is : c.in-Some.spot ≡ place x y = at.1 in
     let on = on_glass x y at.0 in
     let low : c.in-Some.spot < 40 = omega arith in
@@ -26,7 +27,8 @@ returns-in_default g c =
     let x = c.args.at.column in
     let y = c.args.at.row in
     let cs = g.P.Panel.make.cells c.args.panel.now in
+    let unset : None ≡ place_at x y = search (arith, sym c.in_default.is ∙ c.place.ensures) in
     record {
-      cells = sym (cond-false _ (set cs (place x y) c.args.cell) cs (unplaced x y (sym c.in_default.is ∙ c.place.ensures)));
+      cells = sym (cond-false _ (set cs (place x y) c.args.cell) cs (unplaced x y unset));
       reached = none;
     }

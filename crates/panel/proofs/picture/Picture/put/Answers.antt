@@ -7,7 +7,7 @@ pub returns-then-place-lt40-clause-forty : goal.returns-then-place-lt40-clause-f
 returns-then-place-lt40-clause-forty c =
     let held = c.args.self.now.held in
     let long : length held ≡ 40 = search rules in
-    forty_set held c.args.place c.args.cell long
+    search (arith, forty_set held c.args.place c.args.cell long)
 
 pub returns-else-place-lt40-clause-forty : goal.returns-else-place-lt40-clause-forty
 returns-else-place-lt40-clause-forty c =
