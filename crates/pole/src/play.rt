@@ -45,6 +45,15 @@ struct Line<'b, 'a> {
 }
 
 impl<'b, 'a> Line<'b, 'a> {
+    // The line that was handed out last.
+    fn of(lines: &Lines<'a>, text: &'a [u8], words: &'b [&'a [u8]]) -> Line<'b, 'a> {
+        Line {
+            number: lines.number(),
+            text,
+            words,
+        }
+    }
+
     fn request(&self) -> Result<Request, Mistake> {
         request(self.words)
     }
@@ -79,11 +88,7 @@ impl<'r> Play<'r> {
     pub fn run(&mut self, lines: &mut Lines<'_>) -> anyhow::Result<()> {
         while let Some(text) = next_line(lines) {
             let words = words(self.rt.alloc(), text)?;
-            let line = Line {
-                number: lines.number(),
-                text,
-                words: words.as_slice(),
-            };
+            let line = Line::of(lines, text, words.as_slice());
             match line.request() {
                 Ok(
                     Request::On {
@@ -175,11 +180,7 @@ impl<'r> Play<'r> {
         println!(self.rt; "on")?;
         while let Some(text) = next_line(lines) {
             let words = words(self.rt.alloc(), text)?;
-            let line = Line {
-                number: lines.number(),
-                text,
-                words: words.as_slice(),
-            };
+            let line = Line::of(lines, text, words.as_slice());
             match line.request() {
                 Ok(Request::Off) => {
                     println!(self.rt; "off")?;
