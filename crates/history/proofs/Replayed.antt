@@ -1,18 +1,20 @@
 -- One happening more in a life, and a script more.
 use Rattle.panel.specs.Laws.{Make, Reached}
-use Rattle.std.proofs.Common.{OnOk, is_ok, eqb, true, refl, cond, Ok, Err, ◌≡◌, ℕ, ◌+◌, ◌<◌, ◌≤◌, ltb, List, [], ◌∷◌, ◌++◌, length, get_or, take, Some, None, Option, Result, sym, ap, ◌∙◌, subst, subst₂, append_assoc, arith}
-use Rattle.std.proofs.lemmas.List.{append-nil, flat_map_more, take_more}
+use Rattle.std.proofs.Common.{OnOk, eqb, true, refl, Ok, Err, ◌≡◌, ℕ, ◌+◌, ◌<◌, ◌≤◌, ltb, List, [], ◌∷◌, ◌++◌, map, length, get_or, take, Some, None, Option, Result, sym, ap, ◌∙◌, subst, subst₂, append_assoc, arith}
+use Rattle.std.proofs.lemmas.List.{append-nil, flat_map_more, length-take, take_more}
+use Rattle.std.specs.List.{slice_get}
 use Rattle.std.proofs.lemmas.Option.{MatchOption-at_none}
 use Rattle.std.proofs.lemmas.Bool.{le-ltb, cond-false, eqb-true}
 use Rattle.list.specs.declared.list.BoundedList.{BoundedList}
-use Rattle.list.specs.Entries.{entries, capacity}
+use Rattle.list.specs.Entries.{entries, places, capacity}
 use Rattle.commands.specs.Sets.{Reads}
 use Rattle.terms.specs.declared.fault.Fault.{Fault}
-use Rattle.state.specs.Model.{Event, tick, fault_of}
+use Rattle.state.specs.Model.{Event, byte, tick, fault_of, faults}
 use Rattle.display.specs.declared.words.FeedRefusal.{FeedRefusal}
 use Rattle.display.specs.declared.words.FeedRefusal.TheVariants.{FewPlaces}
 use Rattle.display.specs.declared.engine.Display.{Display}
-use Rattle.display.specs.Calls.{feed_cause, free, Accepts, Refuses, Feeds, Ticks, Paints}
+use Rattle.display.specs.Calls.{view, feed_cause, free, Accepts, Refuses, Feeds, Ticks, Paints}
+use Rattle.display.proofs.Fed.{grown_capacity}
 use Rattle.history.specs.declared.replay.words.Happening.{Happening}
 use Rattle.history.specs.declared.replay.words.Happening.TheVariants.{Byte, Tick, Painted}
 use Rattle.history.specs.Lives.{accepted, Calls, none, fed, ticked, painted, asked}
@@ -21,6 +23,13 @@ use Rattle.history.specs.Replays.{event_of, events_of, Handled, on, then, Handle
 -- a byte with two free places is never refused
 accepts : (b : ℕ) (l : BoundedList Fault) → 2 ≤ free l → feed_cause (b ∷ []) l ≡ None
 accepts b l room = cond-false (ltb (free l) 2) (Some FewPlaces) None (le-ltb (free l) 2 room)
+
+-- two at most
+both : (fs : List Fault) → length fs ≤ 2 → fault_of (slice_get fs 0) ++ fault_of (slice_get fs 1) ≡ fs
+both [] h = refl
+both (f ∷ []) h = refl
+both (f ∷ g ∷ []) h = refl
+both (f ∷ g ∷ h ∷ hs) few = absurd (omega (arith, few))
 
 events_more : (hs : List Happening) (i : ℕ) (o : Happening) → i < length hs → events_of (take i hs) ++ event_of (get_or hs i o) ≡ events_of (take (i + 1) hs)
 events_more hs i o lt = flat_map_more event_of [] (take i hs) (get_or hs i o) ∙ ap events_of (sym (take_more hs i o lt))
@@ -51,29 +60,39 @@ module _ {P R : Type 0} (make : Make P) (reads : Reads R) where
   pub happens_painted : (d d' : Display P R) (hs : List Fault) → Paints make d d' → Happens make reads Painted d hs d' hs
   happens_painted d d' hs h = record { given = []; calls = painted none h; joined = sym (append-nil hs); panel = h.panel }
 
-  -- a byte, fed with an empty list over two places, and its entries then collected, unless there was no memory for that
-  pub gives_byte : {E : Type 0} (told : Result (Unit {0}) E) (b : ℕ) (d d' : Display P R) (l l' : BoundedList Fault) (r : Result ℕ FeedRefusal) (hs given all : List Fault) →
-      entries l ≡ [] → capacity l ≡ 2 → Feeds make reads d (b ∷ []) l r d' l' → given ≡ entries l' → all ≡ cond (is_ok told) (hs ++ given) hs →
-      OnOk told (Happens make reads (Byte b) d hs d' all)
-  gives_byte (Ok u) b d d' l l' r hs given all empty two h same joined =
+  -- a byte, fed with an empty list over two places, and its entries then collected
+  gives : (b : ℕ) (d d' : Display P R) (l l' : BoundedList Fault) (r : Result ℕ FeedRefusal) (hs all : List Fault) →
+      entries l ≡ [] → capacity l ≡ 2 → Feeds make reads d (b ∷ []) l r d' l' → (length (entries l') ≤ 2 → all ≡ hs ++ entries l') →
+      Happens make reads (Byte b) d hs d' all
+  gives b d d' l l' r hs all empty two h joined =
       let piece = b ∷ [] in
       let room : 2 ≤ free l = omega (arith, ap length empty, two) in
       let took = MatchOption-at_none (Accepts make reads d piece l r d' l') (λ e. Refuses make reads e d l r d' l') (accepts b l room) h in
+      let long : capacity l' ≡ 2 = grown_capacity l l' (faults reads (view make d) (map byte piece)) took.grown ∙ two in
       record {
-        given = given;
-        calls = subst (λ x. Calls make reads d (accepted x piece) given d') took.answers
-            (fed given piece l l' r none h (sym same ∙ ap (λ z. z ++ given) (sym empty)));
-        joined = joined;
+        given = entries l';
+        calls = subst (λ x. Calls make reads d (accepted x piece) (entries l') d') took.answers
+            (fed (entries l') piece l l' r none h (ap (λ z. z ++ entries l') (sym empty)));
+        joined = joined (omega (arith, length-take l'.len (places l'), long));
         panel = took.reached;
       }
-  gives_byte (Err e) b d d' l l' r hs given all empty two h same joined = tt
+
+  -- the first entry and the second are collected, unless there was no memory for that
+  pub gives_byte : {E : Type 0} (told : Result (Unit {0}) E) (b : ℕ) (d d' : Display P R) (l l' : BoundedList Fault) (r : Result ℕ FeedRefusal) (o o' : Option Fault)
+      (hs mid all : List Fault) → entries l ≡ [] → capacity l ≡ 2 → Feeds make reads d (b ∷ []) l r d' l' →
+      o ≡ slice_get (entries l') 0 → o' ≡ slice_get (entries l') 1 → mid ≡ hs ++ fault_of o → OnOk told (all ≡ mid ++ fault_of o') →
+      OnOk told (Happens make reads (Byte b) d hs d' all)
+  gives_byte (Ok u) b d d' l l' r o o' hs mid all empty two h is is' first second =
+      gives b d d' l l' r hs all empty two h
+      (λ few. second ∙ ap (λ z. z ++ fault_of o') first ∙ append_assoc hs (fault_of o) (fault_of o') ∙
+      ap (λ z. hs ++ z) ((λ i. fault_of (is i) ++ fault_of (is' i)) ∙ both (entries l') few))
+  gives_byte (Err e) b d d' l l' r o o' hs mid all empty two h is is' first second = tt
 
   -- where it has none, nothing is collected
   pub gives_none : (b : ℕ) (d d' : Display P R) (l l' : BoundedList Fault) (r : Result ℕ FeedRefusal) (hs : List Fault) →
       entries l ≡ [] → capacity l ≡ 2 → Feeds make reads d (b ∷ []) l r d' l' → eqb (length (entries l')) 0 ≡ true → Happens make reads (Byte b) d hs d' hs
   gives_none b d d' l l' r hs empty two h still =
-      gives_byte {E = Unit {0}} (Ok tt) b d d' l l' r hs (entries l') hs empty two h refl
-      (sym (append-nil hs) ∙ ap (λ z. hs ++ z) (sym (nil (entries l') still)))
+      gives b d d' l l' r hs hs empty two h (λ _. sym (append-nil hs) ∙ ap (λ z. hs ++ z) (sym (nil (entries l') still)))
     where
       nil : (fs : List Fault) → eqb (length fs) 0 ≡ true → fs ≡ []
       nil [] e = refl

@@ -46,7 +46,8 @@ fn give_byte<P: Panel, S: CommandSets>(
     if list.is_empty() {
         return Ok(());
     }
-    faults.extend_from_slice(list.as_slice())
+    collect(faults, list.nth(0))?;
+    collect(faults, list.nth(1))
 }
 
 fn happen<P: Panel, S: CommandSets>(
