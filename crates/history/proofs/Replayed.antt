@@ -24,11 +24,11 @@ use Rattle.history.specs.Replays.{event_of, events_of, Handled, on, then, Handle
 accepts : (b : ℕ) (l : BoundedList Fault) → 2 ≤ free l → feed_cause (b ∷ []) l ≡ None
 accepts b l room = cond-false (ltb (free l) 2) (Some FewPlaces) None (le-ltb (free l) 2 room)
 
--- two at most
+-- two faults at most are the first and the second
 both : (fs : List Fault) → length fs ≤ 2 → fault_of (slice_get fs 0) ++ fault_of (slice_get fs 1) ≡ fs
-both [] h = refl
-both (f ∷ []) h = refl
-both (f ∷ g ∷ []) h = refl
+both [] few = refl
+both (f ∷ []) few = refl
+both (f ∷ g ∷ []) few = refl
 both (f ∷ g ∷ h ∷ hs) few = absurd (omega (arith, few))
 
 events_more : (hs : List Happening) (i : ℕ) (o : Happening) → i < length hs → events_of (take i hs) ++ event_of (get_or hs i o) ≡ events_of (take (i + 1) hs)
@@ -60,11 +60,11 @@ module _ {P R : Type 0} (make : Make P) (reads : Reads R) where
   pub happens_painted : (d d' : Display P R) (hs : List Fault) → Paints make d d' → Happens make reads Painted d hs d' hs
   happens_painted d d' hs h = record { given = []; calls = painted none h; joined = sym (append-nil hs); panel = h.panel }
 
-  -- a byte, fed with an empty list over two places, and its entries then collected
-  gives : (b : ℕ) (d d' : Display P R) (l l' : BoundedList Fault) (r : Result ℕ FeedRefusal) (hs all : List Fault) →
+  -- a byte, fed with an empty list over two places, and the list's entries, two at most, then collected
+  gives_entries : (b : ℕ) (d d' : Display P R) (l l' : BoundedList Fault) (r : Result ℕ FeedRefusal) (hs all : List Fault) →
       entries l ≡ [] → capacity l ≡ 2 → Feeds make reads d (b ∷ []) l r d' l' → (length (entries l') ≤ 2 → all ≡ hs ++ entries l') →
       Happens make reads (Byte b) d hs d' all
-  gives b d d' l l' r hs all empty two h joined =
+  gives_entries b d d' l l' r hs all empty two h joined =
       let piece = b ∷ [] in
       let room : 2 ≤ free l = omega (arith, ap length empty, two) in
       let took = MatchOption-at_none (Accepts make reads d piece l r d' l') (λ e. Refuses make reads e d l r d' l') (accepts b l room) h in
@@ -77,22 +77,22 @@ module _ {P R : Type 0} (make : Make P) (reads : Reads R) where
         panel = took.reached;
       }
 
-  -- the first entry and the second are collected, unless there was no memory for that
+  -- the first entry and the second are collected one after the other, unless there was no memory for that
   pub gives_byte : {E : Type 0} (told : Result (Unit {0}) E) (b : ℕ) (d d' : Display P R) (l l' : BoundedList Fault) (r : Result ℕ FeedRefusal) (o o' : Option Fault)
       (hs mid all : List Fault) → entries l ≡ [] → capacity l ≡ 2 → Feeds make reads d (b ∷ []) l r d' l' →
       o ≡ slice_get (entries l') 0 → o' ≡ slice_get (entries l') 1 → mid ≡ hs ++ fault_of o → OnOk told (all ≡ mid ++ fault_of o') →
       OnOk told (Happens make reads (Byte b) d hs d' all)
   gives_byte (Ok u) b d d' l l' r o o' hs mid all empty two h is is' first second =
-      gives b d d' l l' r hs all empty two h
+      gives_entries b d d' l l' r hs all empty two h
       (λ few. second ∙ ap (λ z. z ++ fault_of o') first ∙ append_assoc hs (fault_of o) (fault_of o') ∙
       ap (λ z. hs ++ z) ((λ i. fault_of (is i) ++ fault_of (is' i)) ∙ both (entries l') few))
   gives_byte (Err e) b d d' l l' r o o' hs mid all empty two h is is' first second = tt
 
-  -- where it has none, nothing is collected
+  -- where the list stays empty, nothing is collected
   pub gives_none : (b : ℕ) (d d' : Display P R) (l l' : BoundedList Fault) (r : Result ℕ FeedRefusal) (hs : List Fault) →
       entries l ≡ [] → capacity l ≡ 2 → Feeds make reads d (b ∷ []) l r d' l' → eqb (length (entries l')) 0 ≡ true → Happens make reads (Byte b) d hs d' hs
   gives_none b d d' l l' r hs empty two h still =
-      gives b d d' l l' r hs hs empty two h (λ _. sym (append-nil hs) ∙ ap (λ z. hs ++ z) (sym (nil (entries l') still)))
+      gives_entries b d d' l l' r hs hs empty two h (λ _. sym (append-nil hs) ∙ ap (λ z. hs ++ z) (sym (nil (entries l') still)))
     where
       nil : (fs : List Fault) → eqb (length fs) 0 ≡ true → fs ≡ []
       nil [] e = refl

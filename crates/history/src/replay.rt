@@ -31,7 +31,7 @@ fn collect(faults: &mut Vec<Fault>, fault: Option<Fault>) -> Result<(), AllocErr
 }
 
 // A byte is a piece of its own, and two places are enough for its faults.
-#[tactic(auto, using(crate::proofs::Replayed::gives_byte))]
+#[tactic(auto, using(crate::proofs::Replayed::gives_byte, crate::proofs::Replayed::gives_none))]
 fn give_byte<P: Panel, S: CommandSets>(
     display: &mut Display<P, S>,
     byte: u8,
