@@ -1,10 +1,10 @@
 -- One happening more in a life, and a script more.
 use Rattle.panel.specs.Laws.{Make, Reached}
-use Rattle.std.proofs.Common.{OnOk, eqb, true, refl, Ok, Err, ◌≡◌, ℕ, ◌+◌, ◌<◌, ◌≤◌, ltb, List, [], ◌∷◌, ◌++◌, map, length, get_or, take, Some, None, Option, Result, sym, ap, ◌∙◌, subst, subst₂, append_assoc, arith}
+use Rattle.std.proofs.Common.{OnOk, refl, Ok, Err, ◌≡◌, ℕ, ◌+◌, ◌<◌, ◌≤◌, ltb, List, [], ◌∷◌, ◌++◌, map, length, get_or, take, Some, None, Option, Result, sym, ap, ◌∙◌, subst, subst₂, append_assoc, arith}
 use Rattle.std.proofs.lemmas.List.{append-nil, flat_map_more, length-take, take_more}
 use Rattle.std.specs.List.{slice_get}
 use Rattle.std.proofs.lemmas.Option.{MatchOption-at_none}
-use Rattle.std.proofs.lemmas.Bool.{le-ltb, cond-false, eqb-true}
+use Rattle.std.proofs.lemmas.Bool.{le-ltb, cond-false}
 use Rattle.list.specs.declared.list.BoundedList.{BoundedList}
 use Rattle.list.specs.Entries.{entries, places, capacity}
 use Rattle.commands.specs.Sets.{Reads}
@@ -60,43 +60,26 @@ module _ {P R : Type 0} (make : Make P) (reads : Reads R) where
   pub happens_painted : (d d' : Display P R) (hs : List Fault) → Paints make d d' → Happens make reads Painted d hs d' hs
   happens_painted d d' hs h = record { given = []; calls = painted none h; joined = sym (append-nil hs); panel = h.panel }
 
-  -- a byte, fed with an empty list over two places, and the list's entries, two at most, then collected
-  gives_entries : (b : ℕ) (d d' : Display P R) (l l' : BoundedList Fault) (r : Result ℕ FeedRefusal) (hs all : List Fault) →
-      entries l ≡ [] → capacity l ≡ 2 → Feeds make reads d (b ∷ []) l r d' l' → (length (entries l') ≤ 2 → all ≡ hs ++ entries l') →
-      Happens make reads (Byte b) d hs d' all
-  gives_entries b d d' l l' r hs all empty two h joined =
+  -- a byte, fed with an empty list over two places, and its first entry and its second then collected, unless there was no memory for that
+  pub gives_byte : {E : Type 0} (answer : Result (Unit {0}) E) (b : ℕ) (d d' : Display P R) (l l' : BoundedList Fault) (r : Result ℕ FeedRefusal) (o o' : Option Fault)
+      (hs mid all : List Fault) → entries l ≡ [] → capacity l ≡ 2 → Feeds make reads d (b ∷ []) l r d' l' →
+      o ≡ slice_get (entries l') 0 → o' ≡ slice_get (entries l') 1 → mid ≡ hs ++ fault_of o → OnOk answer (all ≡ mid ++ fault_of o') →
+      OnOk answer (Happens make reads (Byte b) d hs d' all)
+  gives_byte (Ok u) b d d' l l' r o o' hs mid all empty two h is is' first second =
       let piece = b ∷ [] in
       let room : 2 ≤ free l = omega (arith, ap length empty, two) in
       let took = MatchOption-at_none (Accepts make reads d piece l r d' l') (λ e. Refuses make reads e d l r d' l') (accepts b l room) h in
       let long : capacity l' ≡ 2 = grown_capacity l l' (faults reads (view make d) (map byte piece)) took.grown ∙ two in
+      let few : length (entries l') ≤ 2 = omega (arith, length-take l'.len (places l'), long) in
+      let all_of : fault_of o ++ fault_of o' ≡ entries l' = (λ i. fault_of (is i) ++ fault_of (is' i)) ∙ both (entries l') few in
       record {
         given = entries l';
         calls = subst (λ x. Calls make reads d (accepted x piece) (entries l') d') took.answers
             (fed (entries l') piece l l' r none h (ap (λ z. z ++ entries l') (sym empty)));
-        joined = joined (omega (arith, length-take l'.len (places l'), long));
+        joined = second ∙ ap (λ z. z ++ fault_of o') first ∙ append_assoc hs (fault_of o) (fault_of o') ∙ ap (λ z. hs ++ z) all_of;
         panel = took.reached;
       }
-
-  -- the first entry and the second are collected one after the other, unless there was no memory for that
-  pub gives_byte : {E : Type 0} (told : Result (Unit {0}) E) (b : ℕ) (d d' : Display P R) (l l' : BoundedList Fault) (r : Result ℕ FeedRefusal) (o o' : Option Fault)
-      (hs mid all : List Fault) → entries l ≡ [] → capacity l ≡ 2 → Feeds make reads d (b ∷ []) l r d' l' →
-      o ≡ slice_get (entries l') 0 → o' ≡ slice_get (entries l') 1 → mid ≡ hs ++ fault_of o → OnOk told (all ≡ mid ++ fault_of o') →
-      OnOk told (Happens make reads (Byte b) d hs d' all)
-  gives_byte (Ok u) b d d' l l' r o o' hs mid all empty two h is is' first second =
-      gives_entries b d d' l l' r hs all empty two h
-      (λ few. second ∙ ap (λ z. z ++ fault_of o') first ∙ append_assoc hs (fault_of o) (fault_of o') ∙
-      ap (λ z. hs ++ z) ((λ i. fault_of (is i) ++ fault_of (is' i)) ∙ both (entries l') few))
   gives_byte (Err e) b d d' l l' r o o' hs mid all empty two h is is' first second = tt
-
-  -- where the list stays empty, nothing is collected
-  pub gives_none : (b : ℕ) (d d' : Display P R) (l l' : BoundedList Fault) (r : Result ℕ FeedRefusal) (hs : List Fault) →
-      entries l ≡ [] → capacity l ≡ 2 → Feeds make reads d (b ∷ []) l r d' l' → eqb (length (entries l')) 0 ≡ true → Happens make reads (Byte b) d hs d' hs
-  gives_none b d d' l l' r hs empty two h still =
-      gives_entries b d d' l l' r hs hs empty two h (λ _. sym (append-nil hs) ∙ ap (λ z. hs ++ z) (sym (nil (entries l') still)))
-    where
-      nil : (fs : List Fault) → eqb (length fs) 0 ≡ true → fs ≡ []
-      nil [] e = refl
-      nil (f ∷ fs) e = absurd (omega (arith, eqb-true _ _ e))
 
   pub goes_nowhere : (d : Display P R) (fs : List Fault) → GoesThrough make reads [] d fs d fs
   goes_nowhere d fs = record { given = []; calls = none; joined = sym (append-nil fs); panel = nothing }

@@ -31,7 +31,7 @@ fn collect(faults: &mut Vec<Fault>, fault: Option<Fault>) -> Result<(), AllocErr
 }
 
 // A byte is a piece of its own, and two places are enough for its faults.
-#[tactic(auto, using(crate::proofs::Replayed::gives_byte, crate::proofs::Replayed::gives_none))]
+#[tactic(auto, using(crate::proofs::Replayed::gives_byte))]
 fn give_byte<P: Panel, S: CommandSets>(
     display: &mut Display<P, S>,
     byte: u8,
@@ -42,10 +42,6 @@ fn give_byte<P: Panel, S: CommandSets>(
     let mut places = [UNUSED; 2];
     let mut list = BoundedList::over(&mut places);
     let _ = display.feed(&[byte], &mut list);
-    // Most bytes give none.
-    if list.is_empty() {
-        return Ok(());
-    }
     collect(faults, list.nth(0))?;
     collect(faults, list.nth(1))
 }
